@@ -1,3 +1,5 @@
 mod Cuts
 mod Joins
 mod Digits
+mod Counting
+mod Firsts

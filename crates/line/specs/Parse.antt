@@ -30,6 +30,11 @@ numbers i (t ∷ ts) = cond (is-number t) (onto (value t) (numbers (i + 1) ts)) 
 abbrev pub counted : ℕ → List (List ℕ) → Result (List ℕ) Refusal
 counted count ts = cond (eqb (length ts) count) (numbers 1 ts) (Err (FieldCount (length ts + 1)))
 
+-- a command that has no numbers, where none were read
+abbrev pub without-numbers : Command → Result (List ℕ) Refusal → Result Command Refusal
+without-numbers c (Ok ns) = Ok c
+without-numbers c (Err e) = Err e
+
 -- the command of a kind of line, from the numbers
 abbrev pub made : Kind → Result (List ℕ) Refusal → Result Command Refusal
 made k (Ok ns) = Ok (k .command (λ i. getD ns i 0))
