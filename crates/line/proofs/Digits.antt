@@ -37,8 +37,12 @@ none-other text e = none text (grind (arith, tells))
 pub none-large : (text : List ℕ) → 255 < value text → Told text None
 none-large text h = none text (grind (arith, tells))
 
-pub some-number : (text : List ℕ) → 0 < length text → length text ≤ 3 → (getD text 0 0 ≡ 48 → length text ≡ 1) → allDigits text ≡ true → value text ≤ 255 → Told text (Some (value text))
-some-number text l h z d v = let e : is-number text ≡ true = grind (arith, tells, z) in sym (cond-true _ _ _ e)
+-- what a field needs to pass
+pub passed : (text : List ℕ) → 0 < length text → length text ≤ 3 → (getD text 0 0 ≡ 48 → length text ≡ 1) → allDigits text ≡ true → value text ≤ 255 → is-number text ≡ true
+passed text l h z d v = grind (arith, tells, z)
+
+pub some-number : (text : List ℕ) → is-number text ≡ true → Told text (Some (value text))
+some-number text e = sym (cond-true _ _ _ e)
 
 ascii-digit : (b : ℕ) → 48 ≤ b → b ≤ 57 → asciiDigit b ≡ true
 ascii-digit b l h = and-from _ _ (le-leb 48 b l) (le-leb b 57 h)

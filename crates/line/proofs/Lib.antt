@@ -3,3 +3,5 @@ mod Joins
 mod Digits
 mod Counting
 mod Firsts
+mod Decimals
+mod Texts

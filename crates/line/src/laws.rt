@@ -8,3 +8,17 @@ pub fn fields_are_parts() -> u8
 {
     0
 }
+
+/// The number fields are exactly the decimal texts of 0 to 255, one for each number.
+pub fn number_fields_are_decimal() -> u8
+    ensures { λ _. ⌜ Decimal-texts ⌝ }
+{
+    0
+}
+
+/// Each command is read from one text, and from no other.
+pub fn every_command_has_one_text() -> u8
+    ensures { λ _. ⌜ One-text ⌝ }
+{
+    0
+}

@@ -8,7 +8,7 @@ use Rattle.std.specs.shelf.Text.{allDigits}
 use Rattle.std.specs.declared.option.Option.the-variants.{Some}
 use Rattle.std.proofs.shelf.Lists.{at-drop-more, at-drop-all}
 use Rattle.line.specs.Numbers.{value, value-after}
-use Rattle.line.proofs.Digits.{Told, none-empty, none-long, none-zero, none-other, none-large, some-number, digits-more, digits-stop}
+use Rattle.line.proofs.Digits.{Told, none-empty, none-long, none-zero, none-other, none-large, some-number, passed, digits-more, digits-stop}
 use Rattle.line.proofs.number.number.Needs as need
 use Rattle.line.proofs.number.number.Needs.{then-b-lt48·by·then-b-lt48, then-b-lt48·by·else-b-lt48·then-b-gt57, else-text-gt1·by·then-text-gt1·else-text-eq48, else-text-gt1·by·else-text-gt1}
 
@@ -54,4 +54,4 @@ returns-else-value-gt255 c =
     let v : value-after (c .loop-b .value) (drop (c .loop-b .b-index) text) ≡ c .loop-b .value = at-drop-all (value-after (c .loop-b .value)) text (c .loop-b .b-index) (c .loop-b-test .left) in
     let alone : getD text 0 0 ≡ 48 → length text ≡ 1 = λ z. elim (c .else-text-gt1 .came) [ else-text-gt1·by·then-text-gt1·else-text-eq48 w ↦ absurd (w .if-text-eq48 .left z) | else-text-gt1·by·else-text-gt1 w ↦ omega (arith, w .if-text-gt1 .left) ] in
     let is : value text ≡ c .loop-b .value = sym (c .loop-b .inv .1) ∙ v in
-    subst (λ n. Told text (Some n)) is (some-number text (omega arith) (omega arith) alone (sym (c .loop-b .inv .0) ∙ e) (omega arith))
+    subst (λ n. Told text (Some n)) is (some-number text (passed text (omega arith) (omega arith) alone (sym (c .loop-b .inv .0) ∙ e) (omega arith)))
