@@ -20,7 +20,7 @@ use Rattle.line.specs.declared.command.Refusal.the-variants.{NoNumber, FieldCo
 use Rattle.line.proofs.Digits.{Told}
 
 -- what a reader handed out was the first of what it had left
-pub record Handed (place : ℕ) (fs : List (List ℕ)) (at : ℕ) (text : List ℕ) : Type 0 where
+pub record First (place : ℕ) (fs : List (List ℕ)) (at : ℕ) (text : List ℕ) : Type 0 where
   pub is : fs ≡ text ∷ later-fields fs
   pub here : at ≡ place
   pub next : later-place place fs ≡ place + 1
@@ -37,7 +37,7 @@ abbrev told-some : Option (ℕ × List ℕ) → ℕ
 told-some None = 0
 told-some (Some f) = 1
 
-pub handed : (place : ℕ) (fs : List (List ℕ)) (at : ℕ) (text : List ℕ) → Some (at, text) ≡ first-field place fs → Handed place fs at text
+pub handed : (place : ℕ) (fs : List (List ℕ)) (at : ℕ) (text : List ℕ) → Some (at, text) ≡ first-field place fs → First place fs at text
 handed place [] at text e = absurd (let z : _≡_ {A = ℕ} 1 0 = ap told-some e in omega arith)
 handed place (f ∷ fs) at text e = record { is = ap (λ x. x ∷ fs) (sym (ap text-or e)); here = ap place-or e; next = refl }
 

@@ -37,6 +37,12 @@ abbrev pub later-place : ℕ → List (List ℕ) → ℕ
 later-place place [] = place
 later-place place (f ∷ fs) = place + 1
 
+-- A reader that had these fields left, the first of them at a place, handed out the first and has the others left.
+pub record Handed (place : ℕ) (fs : List (List ℕ)) (r : Option (ℕ × List ℕ)) (next : ℕ) (gs : List (List ℕ)) : Type 0 where
+  pub field : r ≡ first-field place fs
+  pub after : gs ≡ later-fields fs
+  pub to : next ≡ later-place place fs
+
 -- no comma among the first n bytes
 abbrev pub NoComma : List ℕ → ℕ → Type 0
 NoComma bs n = (k : ℕ) → k < n → getD bs k 0 ≡ 44 → ⊥

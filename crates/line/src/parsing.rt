@@ -5,6 +5,7 @@ ghost use Rattle.line.specs.Letters.{kind-of, kinds, plan-kinds};
 ghost use Rattle.line.specs.Parse.{counted, of-kind, parsed, without-numbers};
 use crate::Command;
 use crate::Fields;
+use crate::reading::FieldsIterator;
 use crate::Refusal;
 use crate::number::number;
 
@@ -32,13 +33,12 @@ fn numbers<const N: usize>(after: Fields<'_>) -> Result<[u8; N], Refusal>
     requires { ⌜ after .place ≡ 1 ⌝ }
     ensures { λ r. ⌜ r ≡ counted N (left (after .entry .more) (now (after .entry .rest))) ⌝ }
 {
-    let count = after.count();
+    let count = after.remaining();
     if count != N {
         return Err(Refusal::FieldCount { count: count + 1 });
     }
-    let mut rest = after;
     let mut all = [0; N];
-    while let Some(field) = rest.next() {
+    for field in after {
         match number(field.text) {
             Some(n) => all[field.place - 1] = n,
             None => return Err(Refusal::NoNumber { field: field.place }),

@@ -3,7 +3,8 @@ ghost use mathlib.Core.List.{[]};
 ghost use Prim.Native.Nat.{ℕ, _+_, _^_, _<_, _≤_};
 ghost use lib.ListN.{length, getD};
 ghost use Rattle.std.specs.Options.{Cases as BySome, mapped};
-ghost use Rattle.line.specs.Fields.{fields, left, first-field, later-fields, later-place, NoComma};
+ghost use denote.Ref.{now};
+ghost use Rattle.line.specs.Fields.{fields, left, Handed, NoComma};
 use crate::Field;
 use crate::Fields;
 
@@ -44,12 +45,29 @@ impl<'a> Fields<'a> {
         Fields { rest: line, more: false, place: 1 }
     }
 
-    /// The next field, if one is left.
-    pub fn next(&mut self) -> Option<Field<'a>>
-        ensures field { λ r. ⌜ mapped (λ f. (f .place, now (f .text))) r ≡ first-field (now (self .entry) .place) (left (now (self .entry) .more) (now (now (self .entry) .rest))) ⌝ }
-        ensures after { λ r. ⌜ left (now (self .exit) .more) (now (now (self .exit) .rest)) ≡ later-fields (left (now (self .entry) .more) (now (now (self .entry) .rest))) ⌝ }
-        ensures place { λ r. ⌜ now (self .exit) .place ≡ later-place (now (self .entry) .place) (left (now (self .entry) .more) (now (now (self .entry) .rest))) ⌝ }
+    /// How many fields are left.
+    pub fn remaining(self) -> usize
+        ensures value { λ r. ⌜ r ≡ length (left (self .entry .more) (now (self .entry .rest))) ⌝ }
+        ensures fits { λ r. ⌜ r + self .entry .place < 2 ^ 64 ⌝ }
     {
+        let mut n = 0;
+        for _ in self {
+            n += 1;
+        }
+        n
+    }
+}
+
+pub impl<'a> Iterator for Fields<'a> as FieldsIterator {
+    type Item = Field<'a>;
+
+    ghost steps = { λ s r t. Handed (s .place) (left (s .more) (now (s .rest))) (mapped (λ f. (f .place, now (f .text))) r) (t .place) (left (t .more) (now (t .rest))) };
+
+    ghost ends = { λ _. Unit {0} };
+
+    ghost left = { λ s. length (left (s .more) (now (s .rest))) };
+
+    fn next(&mut self) -> Option<Field<'a>> {
         if !self.more {
             return None;
         }
@@ -66,18 +84,5 @@ impl<'a> Fields<'a> {
                 Some(Field { place, text: rest })
             }
         }
-    }
-
-    /// How many fields are left.
-    pub fn count(self) -> usize
-        ensures value { λ r. ⌜ r ≡ length (left (self .entry .more) (now (self .entry .rest))) ⌝ }
-        ensures fits { λ r. ⌜ r + self .entry .place < 2 ^ 64 ⌝ }
-    {
-        let mut rest = self;
-        let mut n = 0;
-        while let Some(_) = rest.next() {
-            n += 1;
-        }
-        n
     }
 }

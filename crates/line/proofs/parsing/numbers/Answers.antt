@@ -5,15 +5,16 @@ use Rattle.line.proofs.Counting.{handed, none-left, start, turn, all-read, cou
 use Rattle.line.proofs.parsing.numbers.Needs as need
 
 pub loop-field-holds : need.loop-field-holds
-loop-field-holds g c = start _ _ _ (omega arith) (omega (arith, c .count-count .ensures .value))
+loop-field-holds g c =
+    rw (c .into-iter-field-iterator .ensures .becomes) (start _ _ _ (omega arith) (omega (arith, c .remaining-count .ensures .value)))
 
 pub loop-field-again : need.loop-field-again
 loop-field-again g c =
-    let next = c .in-Some .ensures tt in
+    let next = c .in-Some .ensures tt .steps in
     let h = handed _ _ _ _ (next .field) in
-    rw (next .place ∙ h .next, next .after, h .here) (turn (c .loop-field .inv) _ _ (h .is) _ (c .in-Some-number .ensures tt))
+    rw (next .to ∙ h .next, next .after, h .here) (turn (c .loop-field .inv) _ _ (h .is) _ (c .in-Some-number .ensures tt))
 
 pub returns : need.returns
 returns g c =
     let ts = left (c .args .after .more) (c .args .after .rest .now) in
-    count-agrees ts (g .N) _ (omega (arith, c .count-count .ensures .value)) (all-read (c .loop-field .inv) (none-left _ _ (c .in-rest .ensures tt .field)))
+    count-agrees ts (g .N) _ (omega (arith, c .remaining-count .ensures .value)) (all-read (c .loop-field .inv) (none-left _ _ (c .in-None .ensures tt .steps .field)))
