@@ -1,0 +1,1 @@
+//! What plans, orders, the rules and the gate book mean, and the theorems about them.
