@@ -4,7 +4,7 @@ ghost use Rattle.std.specs.declared.option.Option.the-variants.{Some, None};
 ghost use Rattle.line.specs.Numbers.{is-number, value};
 
 /// The number that a field writes, if it is a decimal number from 0 to 255 without leading zeros.
-pub fn number(text: &[u8]) -> Option<u8>
+pub(super) fn number(text: &[u8]) -> Option<u8>
     ensures { λ r. ⌜ r ≡ cond (is-number (now (text .entry))) (Some (value (now (text .entry)))) None ⌝ }
 {
     if text.len() == 0 {

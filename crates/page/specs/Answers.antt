@@ -1,5 +1,7 @@
 -- Each answer as a row: its code, and up to three numbers. A number that says nothing is 0.
 use Prim.Native.Nat.{ℕ}
+use Rattle.line.specs.declared.command.Refusal.{Refusal}
+use Rattle.line.specs.declared.command.Refusal.the-variants as unreadable
 use Rattle.page.specs.declared.answer.Answer.{Answer}
 use Rattle.page.specs.declared.answer.Answer.the-variants.{Accepted, BadByte, NoLetter, FieldCount, NoNumber, WrongPhase, NoSuchName, WrongKind, AlreadyGiven, FactsDiffer, LimitPassed, Circle, EntryMissing, StepWaiting, CompoundStep, OpenNeed, Threatened}
 use Rattle.page.specs.declared.answer.Row.{Row}
@@ -34,3 +36,10 @@ row (StepWaiting step) = as-row 13 step 0 0
 row (CompoundStep step) = as-row 14 step 0 0
 row (OpenNeed step label) = as-row 15 step label 0
 row (Threatened threat producer consumer) = as-row 16 threat producer consumer
+
+-- the answer to a line that is no command
+abbrev pub unread : Refusal → Answer
+unread (unreadable.BadByte place) = BadByte place
+unread unreadable.NoLetter = NoLetter
+unread (unreadable.FieldCount count) = FieldCount count
+unread (unreadable.NoNumber field) = NoNumber field

@@ -8,6 +8,7 @@ mod text;
 pub use answer::Answer;
 pub use answer::Row;
 pub use answer::Side;
+pub use row::RefusalAnswer;
 pub use text::Line;
 pub use text::line_at;
 pub use text::lines_are_the_text;

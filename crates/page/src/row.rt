@@ -6,11 +6,12 @@ ghost use lib.ListN.{length};
 ghost use Rattle.std.specs.Options.{Cases as BySome};
 ghost use Rattle.std.specs.Written.{decimal};
 ghost use Rattle.std.specs.declared.option.Option.the-variants.{Some, None};
-ghost use Rattle.page.specs.Answers.{as-row, row, side-number};
+ghost use Rattle.page.specs.Answers.{as-row, row, side-number, unread};
 ghost use Rattle.page.specs.Rows.{fits, number-text, row-text, written};
 use crate::answer::Answer;
 use crate::answer::Row;
 use crate::answer::Side;
+use line::Refusal;
 
 /// No row is longer than this, so where this much is free, any row can be written.
 const ROW_ROOM: usize = 28;
@@ -58,6 +59,20 @@ impl Answer {
             return None;
         }
         Some(put_row(page, at, self.row()))
+    }
+}
+
+/// A line that is no command is answered with the cause that its reading gives.
+pub impl From<Refusal> for Answer as RefusalAnswer {
+    ghost converts = { λ refusal answer. answer ≡ unread refusal };
+
+    fn from(refusal: Refusal) -> Answer {
+        match refusal {
+            Refusal::BadByte { place } => Answer::BadByte { place },
+            Refusal::NoLetter => Answer::NoLetter,
+            Refusal::FieldCount { count } => Answer::FieldCount { count },
+            Refusal::NoNumber { field } => Answer::NoNumber { field },
+        }
     }
 }
 
