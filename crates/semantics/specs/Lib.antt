@@ -1,3 +1,14 @@
 pub mod Tasks
 pub mod Causes
 pub mod TaskLines
+pub mod Orders
+pub mod Closures
+pub mod Plans
+pub mod Facts
+pub mod Methods
+pub mod Decomposing
+pub mod Phases
+pub mod Book
+pub mod States
+pub mod Rules
+pub mod Promise
