@@ -4,4 +4,4 @@ mod Digits
 mod Counting
 mod Firsts
 mod Decimals
-mod Texts
+pub mod Texts

@@ -42,20 +42,20 @@ pub record Book : Type 1 where
   pub facts : Facts
 
 -- a new step of the plan, after step 0 and before step 1
-abbrev pub step-in : BookPlan → ℕ → BookPlan
-step-in p t = record {
+abbrev pub write-step : BookPlan → ℕ → BookPlan
+write-step p t = record {
     steps = p .steps ++ (Some t ∷ []);
     links = p .links;
     before = Chained (And (And (p .before) 0 (length (p .steps))) (length (p .steps)) 1)
   }
 
 -- a pair of the plan
-abbrev pub order-in : BookPlan → ℕ → ℕ → BookPlan
-order-in p a b = record { steps = p .steps; links = p .links; before = Chained (And (p .before) a b) }
+abbrev pub write-order : BookPlan → ℕ → ℕ → BookPlan
+write-order p a b = record { steps = p .steps; links = p .links; before = Chained (And (p .before) a b) }
 
 -- a link of the plan, with its pair where both ends are primitive
-abbrev pub link-in : List Task → BookPlan → Link → BookPlan
-link-in ts p l = record {
+abbrev pub write-link : List Task → BookPlan → Link → BookPlan
+write-link ts p l = record {
     steps = p .steps;
     links = with-link (p .links) l;
     before = Chained (λ x y. p .before x y ⊎ LinkPair ts (p .steps) l x y)
@@ -71,51 +71,51 @@ decomposed ts p s m =
     record { steps = ss; links = ls; before = Chained (Inherits ts (p .before) n s m ss ls) }
 
 -- the parts of a book, each put in place of the old one
-abbrev pub with-tasks : Book → List Task → Book
-with-tasks b ts = record { phase = b .phase; tasks = ts; methods = b .methods; draft = b .draft; plan = b .plan; facts = b .facts }
+abbrev pub write-tasks : Book → List Task → Book
+write-tasks b ts = record { phase = b .phase; tasks = ts; methods = b .methods; draft = b .draft; plan = b .plan; facts = b .facts }
 
-abbrev pub with-methods : Book → List Method → Book
-with-methods b ms = record { phase = b .phase; tasks = b .tasks; methods = ms; draft = b .draft; plan = b .plan; facts = b .facts }
+abbrev pub write-methods : Book → List Method → Book
+write-methods b ms = record { phase = b .phase; tasks = b .tasks; methods = ms; draft = b .draft; plan = b .plan; facts = b .facts }
 
-abbrev pub with-draft : Book → Method → Book
-with-draft b m = record { phase = b .phase; tasks = b .tasks; methods = b .methods; draft = m; plan = b .plan; facts = b .facts }
+abbrev pub write-draft : Book → Method → Book
+write-draft b m = record { phase = b .phase; tasks = b .tasks; methods = b .methods; draft = m; plan = b .plan; facts = b .facts }
 
-abbrev pub with-plan : Book → BookPlan → Book
-with-plan b p = record { phase = b .phase; tasks = b .tasks; methods = b .methods; draft = b .draft; plan = p; facts = b .facts }
+abbrev pub write-plan : Book → BookPlan → Book
+write-plan b p = record { phase = b .phase; tasks = b .tasks; methods = b .methods; draft = b .draft; plan = p; facts = b .facts }
 
-abbrev pub with-facts : Book → Facts → Book
-with-facts b fs = record { phase = b .phase; tasks = b .tasks; methods = b .methods; draft = b .draft; plan = b .plan; facts = fs }
+abbrev pub write-facts : Book → Facts → Book
+write-facts b fs = record { phase = b .phase; tasks = b .tasks; methods = b .methods; draft = b .draft; plan = b .plan; facts = fs }
 
-abbrev pub in-phase : Book → Phase → Book
-in-phase b ph = record { phase = ph; tasks = b .tasks; methods = b .methods; draft = b .draft; plan = b .plan; facts = b .facts }
+abbrev pub turn-to : Book → Phase → Book
+turn-to b ph = record { phase = ph; tasks = b .tasks; methods = b .methods; draft = b .draft; plan = b .plan; facts = b .facts }
 
 abbrev pub decompose-by : Book → ℕ → Option Method → Book
 decompose-by b s None = b
-decompose-by b s (Some m) = with-plan b (decomposed (b .tasks) (b .plan) s m)
+decompose-by b s (Some m) = write-plan b (decomposed (b .tasks) (b .plan) s m)
 
 -- in the phases of a plan or a method, a step, a pair or a link goes to the one that is open
 abbrev pub enter-step : Phase → ℕ → Book → Book
 enter-step Tasks t b = b
 enter-step Methods t b = b
-enter-step MethodOpen t b = with-draft b (step-of (b .draft) t)
-enter-step Initial t b = with-plan b (step-in (b .plan) t)
+enter-step MethodOpen t b = write-draft b (step-of (b .draft) t)
+enter-step Initial t b = write-plan b (write-step (b .plan) t)
 enter-step Refine t b = b
 enter-step Running t b = b
 
 abbrev pub enter-order : Phase → ℕ → ℕ → Book → Book
 enter-order Tasks p q b = b
 enter-order Methods p q b = b
-enter-order MethodOpen p q b = with-draft b (order-of (b .draft) p q)
-enter-order Initial p q b = with-plan b (order-in (b .plan) p q)
-enter-order Refine p q b = with-plan b (order-in (b .plan) p q)
+enter-order MethodOpen p q b = write-draft b (order-of (b .draft) p q)
+enter-order Initial p q b = write-plan b (write-order (b .plan) p q)
+enter-order Refine p q b = write-plan b (write-order (b .plan) p q)
 enter-order Running p q b = b
 
 abbrev pub enter-link : Phase → Link → Book → Book
 enter-link Tasks l b = b
 enter-link Methods l b = b
-enter-link MethodOpen l b = with-draft b (link-of (b .draft) l)
-enter-link Initial l b = with-plan b (link-in (b .tasks) (b .plan) l)
-enter-link Refine l b = with-plan b (link-in (b .tasks) (b .plan) l)
+enter-link MethodOpen l b = write-draft b (link-of (b .draft) l)
+enter-link Initial l b = write-plan b (write-link (b .tasks) (b .plan) l)
+enter-link Refine l b = write-plan b (write-link (b .tasks) (b .plan) l)
 enter-link Running l b = b
 
 -- the task of step s of the book's plan
@@ -124,27 +124,27 @@ task-in-book b s = at-task (b .tasks) (nth (b .plan .steps) s)
 
 -- what an accepted command enters
 abbrev pub enter : Command → Book → Book
-enter NewPrimitive b = with-tasks b (tasks-with-task true (b .tasks))
-enter NewCompound b = with-tasks b (tasks-with-task false (b .tasks))
-enter (AppendNeed t f) b = with-tasks b (tasks-with-need t f (b .tasks))
-enter (AppendAdd t f) b = with-tasks b (tasks-with-add t f (b .tasks))
-enter (AppendDelete t f) b = with-tasks b (tasks-with-delete t f (b .tasks))
+enter NewPrimitive b = write-tasks b (tasks-with-task true (b .tasks))
+enter NewCompound b = write-tasks b (tasks-with-task false (b .tasks))
+enter (AppendNeed t f) b = write-tasks b (tasks-with-need t f (b .tasks))
+enter (AppendAdd t f) b = write-tasks b (tasks-with-add t f (b .tasks))
+enter (AppendDelete t f) b = write-tasks b (tasks-with-delete t f (b .tasks))
 enter EndPhase b = b
-enter (OpenMethod t) b = with-draft b (blank t)
+enter (OpenMethod t) b = write-draft b (blank t)
 enter (NewStep t) b = enter-step (b .phase) t b
 enter (PutOrder p q) b = enter-order (b .phase) p q b
 enter (PutLink p i q j) b = enter-link (b .phase) (record { producer = p; add = i; consumer = q; need = j }) b
-enter (RouteNeed j s k) b = with-draft b (need-entry (b .draft) j (s, k))
-enter (RouteAdd i s k) b = with-draft b (add-entry (b .draft) i (s, k))
-enter CloseMethod b = with-methods b (b .methods ++ (b .draft ∷ []))
+enter (RouteNeed j s k) b = write-draft b (need-entry (b .draft) j (s, k))
+enter (RouteAdd i s k) b = write-draft b (add-entry (b .draft) i (s, k))
+enter CloseMethod b = write-methods b (b .methods ++ (b .draft ∷ []))
 enter (Decompose s m) b = cond (is-refine (b .phase)) (decompose-by b s (nth (b .methods) m)) b
 enter Judge b = b
-enter (Take s) b = cond (is-running (b .phase)) (with-facts b (after-step (task-in-book b s) (b .facts))) b
+enter (Take s) b = cond (is-running (b .phase)) (write-facts b (after-step (task-in-book b s) (b .facts))) b
 
 -- A line that is no command, and a line with another code than 0, change nothing; an accepted one enters, and moves the phase.
 abbrev pub fed : Book → Result Command Refusal → ℕ → Book
 fed b (Err e) code = b
-fed b (Ok c) zero = in-phase (enter c b) (phase-after c (b .phase))
+fed b (Ok c) zero = turn-to (enter c b) (phase-after c (b .phase))
 fed b (Ok c) (suc code) = b
 
 -- the book after a line with its code

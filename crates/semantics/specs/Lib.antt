@@ -12,3 +12,4 @@ pub mod Book
 pub mod States
 pub mod Rules
 pub mod Promise
+pub mod Theorems

@@ -310,10 +310,10 @@ row-for capacity st (Ok c) = verdict capacity st c
 row-for capacity st (Err e) = row (unread e)
 
 -- an accepted command changes the state, and any other line leaves it as it was
-abbrev pub state-for : ℕ → State → Result Command Refusal → State
-state-for code st (Err e) = st
-state-for zero st (Ok c) = next st c
-state-for (suc code) st (Ok c) = st
+abbrev pub state-for : State → Result Command Refusal → ℕ → State
+state-for st (Err e) code = st
+state-for st (Ok c) zero = next st c
+state-for st (Ok c) (suc code) = st
 
 -- the row that answers a line
 abbrev pub answer : ℕ → State → List ℕ → Row
@@ -321,7 +321,7 @@ answer capacity st line = row-for capacity st (parsed line)
 
 -- the state after the line
 abbrev pub tell : ℕ → State → List ℕ → State
-tell capacity st line = state-for (answer capacity st line .code) st (parsed line)
+tell capacity st line = state-for st (parsed line) (answer capacity st line .code)
 
 -- the rows of some lines, in their order
 abbrev pub rows : ℕ → State → List (List ℕ) → List Row

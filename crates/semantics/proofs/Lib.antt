@@ -1,0 +1,15 @@
+pub mod Orders
+pub mod Closures
+pub mod Links
+pub mod Plans
+pub mod Decomposing
+pub mod Inherited
+pub mod Allowed
+pub mod Good
+pub mod PlanLines
+pub mod InStep
+pub mod Searches
+pub mod Careful
+pub mod Histories
+pub mod Capacity
+pub mod Promise
