@@ -1,5 +1,6 @@
 pub mod Orders
 pub mod Closures
+pub mod Puts
 pub mod Links
 pub mod Plans
 pub mod Decomposing
