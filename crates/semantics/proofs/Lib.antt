@@ -14,3 +14,4 @@ pub mod Careful
 pub mod Histories
 pub mod Capacity
 pub mod Promise
+pub mod Listing

@@ -13,3 +13,4 @@ pub mod States
 pub mod Rules
 pub mod Promise
 pub mod Theorems
+pub mod Listing
