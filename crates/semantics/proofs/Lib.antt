@@ -15,3 +15,6 @@ pub mod Histories
 pub mod Capacity
 pub mod Promise
 pub mod Listing
+pub mod Table
+pub mod Lowest
+pub mod Limits

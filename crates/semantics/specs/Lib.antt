@@ -14,3 +14,4 @@ pub mod Rules
 pub mod Promise
 pub mod Theorems
 pub mod Listing
+pub mod Laws
