@@ -26,6 +26,7 @@ use Rattle.semantics.specs.declared.link.Link.{Link}
 use Rattle.semantics.specs.declared.phase.Phase.{Phase}
 use Rattle.semantics.specs.declared.phase.Phase.the-variants.{Initial, MethodOpen, Methods, Refine, Running, Tasks}
 use Rattle.semantics.proofs.Allowed.{Allowed, Careful, Lawful, PlanOpen}
+use Rattle.semantics.proofs.Decomposes.{gives}
 use Rattle.semantics.proofs.Decomposing.{upfrom-in}
 use Rattle.semantics.proofs.Inherited.{nth-below, nth-there}
 use Rattle.semantics.proofs.Plans.{among-in, in-among, step-in}
@@ -164,7 +165,7 @@ returned-none : (o : Option ℕ) → returned o ≡ None → o ≡ None
 returned-none None h = refl
 returned-none (Some x) h = let w : ⊥ = grind arith in absurd w
 
-none-returned : (o : Option ℕ) → o ≡ None → returned o ≡ None
+pub none-returned : (o : Option ℕ) → o ≡ None → returned o ≡ None
 none-returned o h = ap returned h
 
 label-none : (o : Option (ℕ × ℕ)) → at-label o ≡ None → o ≡ None
@@ -215,7 +216,7 @@ module _ (ts : List Task) (p : Plan) where
   deletes-some None f h = let w : ⊥ = grind arith in absurd w
   deletes-some (Some t) f h = (t, refl, among-in f (t .deletes) h)
 
-  tested-threat : (l : Link) (f s : ℕ) → Protects ts p l f → threatens ts p s l ≡ true → Threat ts p l f s
+  pub tested-threat : (l : Link) (f s : ℕ) → Protects ts p l f → threatens ts p s l ≡ true → Threat ts p l f s
   tested-threat l f s pr h =
       let a : nth (adds-of (task-of ts p (l .producer))) (l .add) ≡ Some f = ap (λ (o : Option Task). nth (adds-of o) (l .add)) (pr .gives) ∙ pr .added in
       let x = and-parts (holds-fact (nth (adds-of (task-of ts p (l .producer))) (l .add)) (deletes-of (task-of ts p s))) (not (eqb s (l .producer)) && (not (eqb s (l .consumer)) && (not (p .before s (l .producer)) && not (p .before (l .consumer) s)))) h in

@@ -18,3 +18,5 @@ pub mod Listing
 pub mod Table
 pub mod Lowest
 pub mod Limits
+pub mod Exact
+pub mod Decomposes

@@ -6,7 +6,14 @@ mod laws;
 mod link;
 mod phase;
 
+pub use laws::as_listed;
+pub use laws::decomposition;
+pub use laws::judged_exactly;
+pub use laws::limits_hold;
+pub use laws::lowest_cause;
+pub use laws::lowest_named;
 pub use laws::needs_are_met;
+pub use laws::only_fitting;
 pub use laws::promise_holds;
 pub use laws::put_is_smallest;
 pub use laws::puts_are_the_closure;
