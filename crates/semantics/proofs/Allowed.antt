@@ -25,7 +25,7 @@ use Rattle.semantics.specs.declared.phase.Phase.the-variants.{Initial, MethodO
 
 abbrev pub OwnEnds : List Task → Method → Link → Type 0
 OwnEnds ts m l = (f : ℕ) × (u : Task) × (v : Task) × (own-task-of ts m (l .producer) ≡ Some u) × (own-task-of ts m (l .consumer) ≡ Some v)
-  × Labelled (u .adds) (l .add) f × Labelled (v .needs) (l .need) f
+    × Labelled (u .adds) (l .add) f × Labelled (v .needs) (l .need) f
 
 -- need j of the task goes to need k of step a, and add i to add k
 abbrev pub NeedGoes : List Task → Method → Task → ℕ → ℕ × ℕ → Type 0
@@ -61,16 +61,16 @@ Allowed st EndPhase = (st .phase ≡ Tasks) ⊎ ((st .phase ≡ Methods) ⊎ (st
 Allowed st (OpenMethod t) = (st .phase ≡ Methods) × ((u : Task) × (nth (st .tasks) t ≡ Some u))
 Allowed st (NewStep t) = ((u : Task) × (nth (st .tasks) t ≡ Some u)) × ((st .phase ≡ MethodOpen) ⊎ (st .phase ≡ Initial))
 Allowed st (PutOrder p q) = ((st .phase ≡ MethodOpen) × (p < length (st .draft .steps)) × (q < length (st .draft .steps)))
-  ⊎ (PlanOpen (st .phase) × In p (steps-of (st .plan)) × In q (steps-of (st .plan)) × (p ≡ q → ⊥) × (Holds (st .plan .before) q p → ⊥))
+    ⊎ (PlanOpen (st .phase) × In p (steps-of (st .plan)) × In q (steps-of (st .plan)) × (p ≡ q → ⊥) × (Holds (st .plan .before) q p → ⊥))
 Allowed st (PutLink p i q j) = ((st .phase ≡ MethodOpen) × OwnEnds (st .tasks) (st .draft) (record { producer = p; add = i; consumer = q; need = j }))
-  ⊎ (PlanOpen (st .phase) × Room (st .tasks) (st .plan) (record { producer = p; add = i; consumer = q; need = j }))
+    ⊎ (PlanOpen (st .phase) × Room (st .tasks) (st .plan) (record { producer = p; add = i; consumer = q; need = j }))
 Allowed st (RouteNeed j s k) = (st .phase ≡ MethodOpen) × ((t : Task) × (nth (st .tasks) (st .draft .task) ≡ Some t) × NeedGoes (st .tasks) (st .draft) t j (s, k))
 Allowed st (RouteAdd i s k) = (st .phase ≡ MethodOpen) × ((t : Task) × (nth (st .tasks) (st .draft .task) ≡ Some t) × AddGoes (st .tasks) (st .draft) t i (s, k))
 Allowed st CloseMethod = (st .phase ≡ MethodOpen) × ((t : Task) × (nth (st .tasks) (st .draft .task) ≡ Some t)
-  × ((j f : ℕ) → Labelled (t .needs) j f → (e : ℕ × ℕ) × (st .draft .needs-go j ≡ Some e))
-  × ((i f : ℕ) → Labelled (t .adds) i f → (e : ℕ × ℕ) × (st .draft .adds-go i ≡ Some e)))
+    × ((j f : ℕ) → Labelled (t .needs) j f → (e : ℕ × ℕ) × (st .draft .needs-go j ≡ Some e))
+    × ((i f : ℕ) → Labelled (t .adds) i f → (e : ℕ × ℕ) × (st .draft .adds-go i ≡ Some e)))
 Allowed st (Decompose s m) = (st .phase ≡ Refine) × ((n : Method) × (nth (st .methods) m ≡ Some n) × (nth (st .plan .steps) s ≡ Some (Some (n .task)))
-  × ((q : Plan) × (decompose-step (st .tasks) (st .plan) s n ≡ Some q)))
+    × ((q : Plan) × (decompose-step (st .tasks) (st .plan) s n ≡ Some q)))
 Allowed st Judge = (st .phase ≡ Refine) × Executable (st .tasks) (st .plan)
 Allowed st (Take s) = (st .phase ≡ Running) × CanTake (st .plan) (st .taken) s
 
@@ -86,7 +86,7 @@ pub record Careful (verdict : State → Command → Row) : Type 0 where
   pub counts : (st : State) → verdict st Judge .code ≡ 0 → verdict st Judge .a ≡ length (steps-of (st .plan))
   pub sums : (st : State) (s : ℕ) → verdict st (Take s) .code ≡ 0 → verdict st (Take s) .a ≡ as-sum (facts-after (st .tasks) (st .plan) (s ∷ st .taken))
   pub threatens : (st : State) → Lawful st → verdict st Judge .code ≡ 16
-    → ((s : ℕ) (t : Task) → task-of (st .tasks) (st .plan) s ≡ Some t → t .primitive ≡ true)
-    × ((l : Link) × (f : ℕ) × Linked l (st .plan .links) × Protects (st .tasks) (st .plan) l f
+      → ((s : ℕ) (t : Task) → task-of (st .tasks) (st .plan) s ≡ Some t → t .primitive ≡ true)
+      × ((l : Link) × (f : ℕ) × Linked l (st .plan .links) × Protects (st .tasks) (st .plan) l f
       × Threat (st .tasks) (st .plan) l f (verdict st Judge .a)
       × (verdict st Judge .b ≡ l .producer) × (verdict st Judge .c ≡ l .consumer))

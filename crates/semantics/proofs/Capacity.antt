@@ -45,10 +45,10 @@ module _ (capacity : ℕ) (st : State) (fits : length (st .plan .steps) ≤ capa
   fits-step t c = ⊎-elim
       (λ e. rw e fits)
       (λ z. ⊎-elim
-        (λ e. let k = leb-false _ _ (when-none _ (c .1 .1 .1 .0)) in
-              let k′ : length (st .plan .steps) < capacity = rw e at k in
-              rw e (simp length-append (omega arith)))
-        (λ y. absurd y) z)
+      (λ e. let k = leb-false _ _ (when-none _ (c .1 .1 .1 .0)) in
+      let k′ : length (st .plan .steps) < capacity = rw e at k in
+      rw e (simp length-append (omega arith)))
+      (λ y. absurd y) z)
       (inside (st .phase) (MethodOpen ∷ Initial ∷ []) (c .0))
 
   fits-decompose : (s m : ℕ) → Clear (causes capacity st (Decompose s m)) → length ((next st (Decompose s m) .plan) .steps) ≤ capacity
@@ -61,7 +61,7 @@ module _ (capacity : ℕ) (st : State) (fits : length (st .plan .steps) ≤ capa
       let few : too-many capacity (st .plan) s (Some n) ≡ false = ap (too-many capacity (st .plan) s) (sym (a .1 .1)) ∙ when-none _ (c .1 .1 .1 .0) in
       let less = ltb-false capacity (length (st .plan .steps) + length (n .steps)) (or-parts _ _ few .0) in
       let count : length (steps-after (st .plan) s n) ≡ length (st .plan .steps) + length (n .steps) =
-        length-append (set (st .plan .steps) s None) (map Some (n .steps)) ∙ (λ i. length-set (st .plan .steps) s None i + length-map (n .steps) i) in
+      length-append (set (st .plan .steps) s None) (map Some (n .steps)) ∙ (λ i. length-set (st .plan .steps) s None i + length-map (n .steps) i) in
       let all : length ((next st (Decompose s m) .plan) .steps) ≡ length (st .plan .steps) + length (n .steps) = ap (λ (p : Plan). length (p .steps)) is ∙ (ap length made ∙ count) in
       omega arith
 

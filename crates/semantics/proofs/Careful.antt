@@ -79,9 +79,10 @@ module _ (capacity : ℕ) (st : State) where
   plan-order o = open-plan (st .phase) (own-order (st .tasks) (st .draft)) (st .plan .before) o
 
   at-step : (t : ℕ) → Clear (causes capacity st (NewStep t)) → Allowed st (NewStep t)
-  at-step t c =
-      (known-task t (named 1 (ltb t (length (st .tasks)) ∷ []) (c .1 .0) .0),
-       ⊎-elim (λ e. inl e) (λ z. ⊎-elim (λ e. inr e) (λ y. absurd y) z) (inside (st .phase) (MethodOpen ∷ Initial ∷ []) (c .0)))
+  at-step t c = (
+    known-task t (named 1 (ltb t (length (st .tasks)) ∷ []) (c .1 .0) .0),
+    ⊎-elim (λ e. inl e) (λ z. ⊎-elim (λ e. inr e) (λ y. absurd y) z) (inside (st .phase) (MethodOpen ∷ Initial ∷ []) (c .0)),
+  )
 
   at-order : (p q : ℕ) → Clear (causes capacity st (PutOrder p q)) → Allowed st (PutOrder p q)
   at-order p q c =
@@ -90,13 +91,15 @@ module _ (capacity : ℕ) (st : State) where
       let nq : is-step (steps-now st) q ≡ true = ns .1 .0 in
       let free = or-parts (eqb p q) (order-now st q p) (when-none (eqb p q || order-now st q p) (c .1 .1 .0)) in
       ⊎-elim
-        (λ e. let s = own-steps e in inl (e, own-below (st .draft .steps) p (ap (λ (os : List (Option ℕ)). is-step os p) (sym s) ∙ np), own-below (st .draft .steps) q (ap (λ (os : List (Option ℕ)). is-step os q) (sym s) ∙ nq)))
-        (λ o. let s = plan-steps o in inr (o,
-           step-is-in (st .plan .steps) p (ap (λ (os : List (Option ℕ)). is-step os p) (sym s) ∙ np),
-           step-is-in (st .plan .steps) q (ap (λ (os : List (Option ℕ)). is-step os q) (sym s) ∙ nq),
-           eqb-false p q (free .0),
-           λ h. both-ways (st .plan .before q p) (ap (λ (R : ℕ → ℕ → Bool). R q p) (sym (plan-order o)) ∙ free .1) h))
-        (in-open (st .phase) (c .0))
+      (λ e. let s = own-steps e in inl (e, own-below (st .draft .steps) p (ap (λ (os : List (Option ℕ)). is-step os p) (sym s) ∙ np), own-below (st .draft .steps) q (ap (λ (os : List (Option ℕ)). is-step os q) (sym s) ∙ nq)))
+      (λ o. let s = plan-steps o in inr (
+        o,
+        step-is-in (st .plan .steps) p (ap (λ (os : List (Option ℕ)). is-step os p) (sym s) ∙ np),
+        step-is-in (st .plan .steps) q (ap (λ (os : List (Option ℕ)). is-step os q) (sym s) ∙ nq),
+        eqb-false p q (free .0),
+        λ h. both-ways (st .plan .before q p) (ap (λ (R : ℕ → ℕ → Bool). R q p) (sym (plan-order o)) ∙ free .1) h,
+      ))
+      (in-open (st .phase) (c .0))
 
   at-link : (p i q j : ℕ) → Clear (causes capacity st (PutLink p i q j)) → Allowed st (PutLink p i q j)
   at-link p i q j c =
@@ -105,19 +108,26 @@ module _ (capacity : ℕ) (st : State) where
       let u = adds-some (task-now st p) i (f .0) (f .1) in
       let v = needs-some (task-now st q) j (f .0) (f .2) in
       ⊎-elim
-        (λ e. let s = own-steps e in inl (e, (f .0, u .0, v .0, by-steps _ s p (u .0) (u .1), by-steps _ s q (v .0) (v .1), u .2, v .2)))
-        (λ o. let s = plan-steps o in let r = plan-order o in inr (o, record {
-            f = f .0; giver = u .0; taker = v .0;
-            gives = by-steps _ s p (u .0) (u .1); takes = by-steps _ s q (v .0) (v .1);
-            added = u .2; needed = v .2;
-            apart = eqb-false p q (or-parts _ _ free .0);
-            not-back = λ g t h.
+      (λ e. let s = own-steps e in inl (e, (f .0, u .0, v .0, by-steps _ s p (u .0) (u .1), by-steps _ s q (v .0) (v .1), u .2, v .2)))
+      (λ o. let s = plan-steps o in let r = plan-order o in inr (
+        o,
+        record {
+          f = f .0;
+          giver = u .0;
+          taker = v .0;
+          gives = by-steps _ s p (u .0) (u .1);
+          takes = by-steps _ s q (v .0) (v .1);
+          added = u .2;
+          needed = v .2;
+          apart = eqb-false p q (or-parts _ _ free .0);
+          not-back = λ g t h.
               let a : is-primitive (task-now st p) ≡ true = ap is-primitive (u .1) ∙ g in
               let b : is-primitive (task-now st q) ≡ true = ap is-primitive (v .1) ∙ t in
               let k : order-now st q p ≡ true = ap (λ (R : ℕ → ℕ → Bool). R q p) r ∙ h in
-              grind arith
-          }))
-        (in-open (st .phase) (c .0))
+              grind arith;
+        },
+      ))
+      (in-open (st .phase) (c .0))
 
   at-need-goes : (j s k : ℕ) → Clear (causes capacity st (RouteNeed j s k)) → Allowed st (RouteNeed j s k)
   at-need-goes j s k c =
@@ -149,10 +159,15 @@ module _ (capacity : ℕ) (st : State) where
   at-close law c =
       let e = in-method (st .phase) (c .0) in
       let t = law .own-task e in
-      let b = both-none (unentered (needs-of (method-task st)) (st .draft .needs-go)) (unentered (adds-of (method-task st)) (st .draft .adds-go)) (c .1 .0) in
-      (e, (t .0, t .1,
-        λ j f l. entered (needs-of (method-task st)) (st .draft .needs-go) (b .0) j f (ap (λ (o : Option Task). nth (needs-of o) j) (t .1) ∙ l),
-        λ j f l. entered (adds-of (method-task st)) (st .draft .adds-go) (b .1) j f (ap (λ (o : Option Task). nth (adds-of o) j) (t .1) ∙ l)))
+      let b = both-none (unentered (needs-of (method-task st)) (st .draft .needs-go)) (unentered (adds-of (method-task st)) (st .draft .adds-go)) (c .1 .0) in (
+        e,
+        (
+          t .0,
+          t .1,
+          λ j f l. entered (needs-of (method-task st)) (st .draft .needs-go) (b .0) j f (ap (λ (o : Option Task). nth (needs-of o) j) (t .1) ∙ l),
+          λ j f l. entered (adds-of (method-task st)) (st .draft .adds-go) (b .1) j f (ap (λ (o : Option Task). nth (adds-of o) j) (t .1) ∙ l),
+        ),
+      )
 
   pub at-decompose : (s m : ℕ) → Clear (causes capacity st (Decompose s m)) → Allowed st (Decompose s m)
   at-decompose s m c =
@@ -190,7 +205,7 @@ module _ (ts : List Task) (p : Plan) where
       ap is-primitive (sym e) ∙ not-false (is-primitive (task-of ts p s)) k
 
   all-linked : need-unlinked ts p ≡ None → (s : ℕ) (t : Task) → task-of ts p s ≡ Some t → (j f : ℕ) → Labelled (t .needs) j f
-    → (l : Link) × Linked l (p .links) × (l .consumer ≡ s) × (l .need ≡ j)
+      → (l : Link) × Linked l (p .links) × (l .consumer ≡ s) × (l .need ≡ j)
   all-linked h s t e j f l =
       let i = step-in ts p s t e in
       let k : unlinked-at ts p s ≡ None = found-none (unlinked-at ts p) (steps-of p) (label-none _ h) s i in
@@ -205,7 +220,7 @@ module _ (ts : List Task) (p : Plan) where
       let a : nth (adds-of (task-of ts p (l .producer))) (l .add) ≡ Some f = ap (λ (o : Option Task). nth (adds-of o) (l .add)) (pr .gives) ∙ pr .added in
       let d : deletes-of (task-of ts p s) ≡ th .task .deletes = ap deletes-of (th .is-step) in
       let m : holds-fact (nth (adds-of (task-of ts p (l .producer))) (l .add)) (deletes-of (task-of ts p s)) ≡ true =
-        ap (λ (o : Option ℕ). holds-fact o (deletes-of (task-of ts p s))) a ∙ (ap (among f) d ∙ in-among f (th .task .deletes) (th .deletes)) in
+      ap (λ (o : Option ℕ). holds-fact o (deletes-of (task-of ts p s))) a ∙ (ap (among f) d ∙ in-among f (th .task .deletes) (th .deletes)) in
       let n₁ = ne-eqb s (l .producer) (th .not-producer) in
       let n₂ = ne-eqb s (l .consumer) (th .not-consumer) in
       let n₃ = th .not-before in
@@ -229,17 +244,17 @@ module _ (ts : List Task) (p : Plan) where
         not-producer = λ e. let k = eq-eqb s (l .producer) e in grind arith;
         not-consumer = λ e. let k = eq-eqb s (l .consumer) e in grind arith;
         not-before = λ e. grind arith;
-        not-after = λ e. grind arith
+        not-after = λ e. grind arith;
       }
 
   executable : compound-step ts p ≡ None → need-unlinked ts p ≡ None → threat ts p ≡ None → Executable ts p
   executable h k m = record {
-      all-primitive = all-primitive h;
-      all-linked = all-linked k;
-      no-threat = λ l f i pr s th.
+    all-primitive = all-primitive h;
+    all-linked = all-linked k;
+    no-threat = λ l f i pr s th.
         let z = found-none (λ x. lowest-link (threatens ts p x) (p .links)) (steps-of p) (ends-none _ m) s (step-in ts p s (th .task) (th .is-step)) in
-        both-ways _ (lowest-none (threatens ts p s) (p .links) z l i) (threat-tested l f s pr th)
-    }
+        both-ways _ (lowest-none (threatens ts p s) (p .links) z l i) (threat-tested l f s pr th);
+  }
 
 allowed : (capacity : ℕ) (st : State) → Lawful st → (l : Command) → Clear (causes capacity st l) → Allowed st l
 allowed capacity st law NewPrimitive c = in-tasks (st .phase) (c .0)
@@ -260,14 +275,16 @@ allowed capacity st law (RouteAdd i s k) c = at-add-goes capacity st i s k c
 allowed capacity st law CloseMethod c = at-close capacity st law c
 allowed capacity st law (Decompose s m) c = at-decompose capacity st s m c
 allowed capacity st law Judge c = (in-refine (st .phase) (c .0), executable (st .tasks) (st .plan) (c .1 .0) (c .1 .1 .0) (c .1 .1 .1 .0))
-allowed capacity st law (Take s) c =
-    (in-running (st .phase) (c .0), record {
-      present = step-is-in (st .plan .steps) s (named 1 (is-step (st .plan .steps) s ∷ []) (c .1 .0) .0);
-      untaken = λ i. both-ways _ (when-none (among s (st .taken)) (c .1 .1 .0)) (in-among s (st .taken) i);
-      behind = λ x h.
+allowed capacity st law (Take s) c = (
+  in-running (st .phase) (c .0),
+  record {
+    present = step-is-in (st .plan .steps) s (named 1 (is-step (st .plan .steps) s ∷ []) (c .1 .0) .0);
+    untaken = λ i. both-ways _ (when-none (among s (st .taken)) (c .1 .1 .0)) (in-among s (st .taken) i);
+    behind = λ x h.
         let z = such-none (λ y. st .plan .before y s && not (among y (st .taken))) (steps-of (st .plan)) (returned-none _ (c .1 .1 .1 .0)) x (law .sound .own-steps x s h .0) in
-        among-in x (st .taken) (grind arith)
-    })
+        among-in x (st .taken) (grind arith);
+  },
+)
 
 pub numbered-all : (capacity : ℕ) (st : State) (l : Command) → verdict capacity st l .code ≡ 0 → Clear (causes capacity st l)
 numbered-all capacity st NewPrimitive e = clear (causes capacity st NewPrimitive) _ refl e
@@ -293,12 +310,12 @@ takes capacity st law s a =
     let here : nameless 1 (is-step (st .plan .steps) s ∷ []) ≡ None = ap (λ (b : Bool). nameless 1 (b ∷ [])) (in-is-step (st .plan .steps) s (a .1 .present)) in
     let fresh : among s (st .taken) ≡ false = ⊎-elim (λ h. absurd (a .1 .untaken (among-in s (st .taken) h))) (λ h. h) (cases-bool (among s (st .taken))) in
     let none : untaken-before st s ≡ None = none-returned _ (none-such (λ x. st .plan .before x s && not (among x (st .taken))) (steps-of (st .plan)) (λ x i.
-      let b = a .1 .behind x in let m = in-among x (st .taken) in grind arith)) in
+    let b = a .1 .behind x in let m = in-among x (st .taken) in grind arith)) in
     ap (λ (w : Row). w .code) (all-clear (causes capacity st (Take s)) _ (run, (here, (none-when _ fresh, (none, tt)))))
 
 -- a judge line answered by number 16
 pub sixteen : (o₅ o₁₄ o₁₅ o₁₆ : Option (ℕ × ℕ × ℕ)) (n : ℕ) → first-of ((5, o₅) ∷ (14, o₁₄) ∷ (15, o₁₅) ∷ (16, o₁₆) ∷ []) n .code ≡ 16
-  → (o₁₄ ≡ None) × ((v : ℕ × ℕ × ℕ) × (o₁₆ ≡ Some v) × (first-of ((5, o₅) ∷ (14, o₁₄) ∷ (15, o₁₅) ∷ (16, o₁₆) ∷ []) n ≡ record { code = 16; a = v .0; b = v .1; c = v .2 }))
+    → (o₁₄ ≡ None) × ((v : ℕ × ℕ × ℕ) × (o₁₆ ≡ Some v) × (first-of ((5, o₅) ∷ (14, o₁₄) ∷ (15, o₁₅) ∷ (16, o₁₆) ∷ []) n ≡ record { code = 16; a = v .0; b = v .1; c = v .2 }))
 sixteen (Some v) o₁₄ o₁₅ o₁₆ n h = let w : ⊥ = omega arith in absurd w
 sixteen None (Some v) o₁₅ o₁₆ n h = let w : ⊥ = omega arith in absurd w
 sixteen None None (Some v) o₁₆ n h = let w : ⊥ = omega arith in absurd w
@@ -306,8 +323,8 @@ sixteen None None None None n h = let w : ⊥ = omega arith in absurd w
 sixteen None None None (Some v) n h = (refl, (v, refl, refl))
 
 named-threat : (capacity : ℕ) (st : State) → Lawful st → verdict capacity st Judge .code ≡ 16
-  → ((s : ℕ) (t : Task) → task-of (st .tasks) (st .plan) s ≡ Some t → t .primitive ≡ true)
-  × ((l : Link) × (f : ℕ) × Linked l (st .plan .links) × Protects (st .tasks) (st .plan) l f
+    → ((s : ℕ) (t : Task) → task-of (st .tasks) (st .plan) s ≡ Some t → t .primitive ≡ true)
+    × ((l : Link) × (f : ℕ) × Linked l (st .plan .links) × Protects (st .tasks) (st .plan) l f
     × Threat (st .tasks) (st .plan) l f (verdict capacity st Judge .a)
     × (verdict capacity st Judge .b ≡ l .producer) × (verdict capacity st Judge .c ≡ l .consumer))
 named-threat capacity st law e =
@@ -320,18 +337,24 @@ named-threat capacity st law e =
     let z = lowest-some (threatens ts p (x .0 .0)) (p .links) (x .0 .1) (y .1) in
     let l : Link = x .0 .1 in
     let fit = law .sound .links-fit l (z .0) in
-    let is-a : x .0 .0 ≡ verdict capacity st Judge .a = sym (ap (λ (w : Row). w .a) (r .1 .2) ∙ x .2) in
-    (all-primitive ts p (r .0),
-     (l, fit .0, z .0, fit .1,
-      subst (λ (s : ℕ). Threat ts p l (fit .0) s) is-a (tested-threat ts p l (fit .0) (x .0 .0) (fit .1) (z .1)),
-      ap (λ (w : Row). w .b) (r .1 .2) ∙ x .3,
-      ap (λ (w : Row). w .c) (r .1 .2) ∙ x .4))
+    let is-a : x .0 .0 ≡ verdict capacity st Judge .a = sym (ap (λ (w : Row). w .a) (r .1 .2) ∙ x .2) in (
+      all-primitive ts p (r .0),
+      (
+        l,
+        fit .0,
+        z .0,
+        fit .1,
+        subst (λ (s : ℕ). Threat ts p l (fit .0) s) is-a (tested-threat ts p l (fit .0) (x .0 .0) (fit .1) (z .1)),
+        ap (λ (w : Row). w .b) (r .1 .2) ∙ x .3,
+        ap (λ (w : Row). w .c) (r .1 .2) ∙ x .4,
+      ),
+    )
 
 pub careful : (capacity : ℕ) → Careful (verdict capacity)
 careful capacity = record {
-    allowed = λ st law l e. allowed capacity st law l (numbered-all capacity st l e);
-    takes = takes capacity;
-    counts = λ st e. ap (λ (w : Row). w .a) (all-clear (causes capacity st Judge) (number-told st Judge) (numbered-all capacity st Judge e));
-    sums = λ st s e. ap (λ (w : Row). w .a) (all-clear (causes capacity st (Take s)) (number-told st (Take s)) (numbered-all capacity st (Take s) e));
-    threatens = named-threat capacity
-  }
+  allowed = λ st law l e. allowed capacity st law l (numbered-all capacity st l e);
+  takes = takes capacity;
+  counts = λ st e. ap (λ (w : Row). w .a) (all-clear (causes capacity st Judge) (number-told st Judge) (numbered-all capacity st Judge e));
+  sums = λ st s e. ap (λ (w : Row). w .a) (all-clear (causes capacity st (Take s)) (number-told st (Take s)) (numbered-all capacity st (Take s) e));
+  threatens = named-threat capacity;
+}

@@ -65,11 +65,11 @@ moved-not b n s k o e = ap (λ (c : Bool). moved c n o s k) e
 
 arrives : (n s : ℕ) (m : Method) → Arrives n s m
 arrives n s m = record {
-    consumer = λ l a k e g. let q = moved-here (eqb (l .consumer) s) n (l .consumer) (l .need) a k (m .needs-go (l .need)) (eq-eqb _ _ e) g in (ap (λ (z : ℕ × ℕ). z .0) q, ap (λ (z : ℕ × ℕ). z .1) q);
-    producer = λ l a k e g. let q = moved-here (eqb (l .producer) s) n (l .producer) (l .add) a k (m .adds-go (l .add)) (eq-eqb _ _ e) g in (ap (λ (z : ℕ × ℕ). z .0) q, ap (λ (z : ℕ × ℕ). z .1) q);
-    other-consumer = λ l e. let q = moved-not (eqb (l .consumer) s) n (l .consumer) (l .need) (m .needs-go (l .need)) (ne-eqb _ _ e) in (ap (λ (z : ℕ × ℕ). z .0) q, ap (λ (z : ℕ × ℕ). z .1) q);
-    other-producer = λ l e. let q = moved-not (eqb (l .producer) s) n (l .producer) (l .add) (m .adds-go (l .add)) (ne-eqb _ _ e) in (ap (λ (z : ℕ × ℕ). z .0) q, ap (λ (z : ℕ × ℕ). z .1) q)
-  }
+  consumer = λ l a k e g. let q = moved-here (eqb (l .consumer) s) n (l .consumer) (l .need) a k (m .needs-go (l .need)) (eq-eqb _ _ e) g in (ap (λ (z : ℕ × ℕ). z .0) q, ap (λ (z : ℕ × ℕ). z .1) q);
+  producer = λ l a k e g. let q = moved-here (eqb (l .producer) s) n (l .producer) (l .add) a k (m .adds-go (l .add)) (eq-eqb _ _ e) g in (ap (λ (z : ℕ × ℕ). z .0) q, ap (λ (z : ℕ × ℕ). z .1) q);
+  other-consumer = λ l e. let q = moved-not (eqb (l .consumer) s) n (l .consumer) (l .need) (m .needs-go (l .need)) (ne-eqb _ _ e) in (ap (λ (z : ℕ × ℕ). z .0) q, ap (λ (z : ℕ × ℕ). z .1) q);
+  other-producer = λ l e. let q = moved-not (eqb (l .producer) s) n (l .producer) (l .add) (m .adds-go (l .add)) (ne-eqb _ _ e) in (ap (λ (z : ℕ × ℕ). z .0) q, ap (λ (z : ℕ × ℕ). z .1) q);
+}
 
 module _ (ts : List Task) (p : Plan) (s : ℕ) (m : Method) (sound : Sound ts p) where
   n : ℕ
@@ -87,20 +87,20 @@ module _ (ts : List Task) (p : Plan) (s : ℕ) (m : Method) (sound : Sound ts p)
       let r = order-as-book ts p sound (Holds (p .before)) self s m q e in
       let links : q .links ≡ with-links [] all-links = r .1 in
       let order : (x y : ℕ) → Holds (q .before) x y ↔ Chained (Inherits ts (Holds (p .before)) (length (p .steps)) s m (q .steps) (q .links)) x y =
-        subst₂ (λ (ss : List (Option ℕ)) (ls : List Link). (x y : ℕ) → Holds (q .before) x y ↔ Chained (Inherits ts (Holds (p .before)) (length (p .steps)) s m ss ls) x y) (sym (r .0)) (sym (r .1)) (r .3) in
+      subst₂ (λ (ss : List (Option ℕ)) (ls : List Link). (x y : ℕ) → Holds (q .before) x y ↔ Chained (Inherits ts (Holds (p .before)) (length (p .steps)) s m ss ls) x y) (sym (r .0)) (sym (r .1)) (r .3) in
       record {
         sound = decomposed-sound ts p sound s m fits is-s q e;
         passed = λ l i. subst (Linked (passed-down (length (p .steps)) s m l)) (sym links)
-          (withs-linked _ [] all-links (inr (linked-left _ _ _ (linked-map (passed-down (length (p .steps)) s m) l (p .links) i))));
+            (withs-linked _ [] all-links (inr (linked-left _ _ _ (linked-map (passed-down (length (p .steps)) s m) l (p .links) i))));
         joined = λ l i. subst (Linked (renumbered (length (p .steps)) l)) (sym links)
-          (withs-linked _ [] all-links (inr (linked-right _ (map (passed-down (length (p .steps)) s m) (p .links)) _ (linked-map (renumbered (length (p .steps))) l (m .links) i))));
+            (withs-linked _ [] all-links (inr (linked-right _ (map (passed-down (length (p .steps)) s m) (p .links)) _ (linked-map (renumbered (length (p .steps))) l (m .links) i))));
         no-other = λ k i. ⊎-elim (λ j. absurd j)
-          (λ j. ⊎-elim (λ h. inl (map-linked _ k (p .links) h)) (λ h. inr (map-linked _ k (m .links) h)) (linked-either k (map (passed-down (length (p .steps)) s m) (p .links)) (map (renumbered (length (p .steps))) (m .links)) j))
-          (linked-withs k [] all-links (subst (Linked k) links i));
+            (λ j. ⊎-elim (λ h. inl (map-linked _ k (p .links) h)) (λ h. inr (map-linked _ k (m .links) h)) (linked-either k (map (passed-down (length (p .steps)) s m) (p .links)) (map (renumbered (length (p .steps))) (m .links)) j))
+            (linked-withs k [] all-links (subst (Linked k) links i));
         kept = λ x y h a b. order x y .1 (pair (kept h a b));
         before-new = λ x y h k. order x y .1 (pair (before-new h k));
         after-new = λ x y k h. order x y .1 (pair (after-new k h));
-        order = order
+        order = order;
       }
 
   circle : (o : Option Plan) → decompose-step ts p s m ≡ o → (o ≡ None) ↔ ((x : ℕ) × Chained (Inherits ts (Holds (p .before)) (length (p .steps)) s m (steps-after p s m) (links-after p s m)) x x)
@@ -111,7 +111,7 @@ module _ (ts : List Task) (p : Plan) (s : ℕ) (m : Method) (sound : Sound ts p)
 
 pub decomposition : Decomposition
 decomposition = record {
-    gives = λ ts p s m q sound fits is-s e. gives ts p s m sound q fits is-s e;
-    arrives = arrives;
-    refused = λ ts p s m sound. circle ts p s m sound (decompose-step ts p s m) refl
-  }
+  gives = λ ts p s m q sound fits is-s e. gives ts p s m sound q fits is-s e;
+  arrives = arrives;
+  refused = λ ts p s m sound. circle ts p s m sound (decompose-step ts p s m) refl;
+}

@@ -66,8 +66,9 @@ link-pairs-listed ts ss (l ∷ ls) x y i = at (primitive-at ts ss (l .producer))
   where
     more : (m : Link) × Linked m ls × LinkPair ts ss m x y → (m : Link) × Linked m (l ∷ ls) × LinkPair ts ss m x y
     more r = (r .0, inr (r .1), r .2)
+
     at : (b c : Bool) → primitive-at ts ss (l .producer) ≡ b → primitive-at ts ss (l .consumer) ≡ c → (Listed x y (link-pairs ts ss ls) → (m : Link) × Linked m ls × LinkPair ts ss m x y)
-      → Listed x y (cond (b && c) ((l .producer, l .consumer) ∷ link-pairs ts ss ls) (link-pairs ts ss ls)) → (m : Link) × Linked m (l ∷ ls) × LinkPair ts ss m x y
+        → Listed x y (cond (b && c) ((l .producer, l .consumer) ∷ link-pairs ts ss ls) (link-pairs ts ss ls)) → (m : Link) × Linked m (l ∷ ls) × LinkPair ts ss m x y
     at true true p q ih (inl e) = (l, inl refl, (e .0, e .1, subst (Primitive ts ss) (sym (e .0)) (primitive-there ts ss (l .producer) .0 p), subst (Primitive ts ss) (sym (e .1)) (primitive-there ts ss (l .consumer) .0 q)))
     at true true p q ih (inr i) = more (ih i)
     at true false p q ih i = more (ih i)
@@ -96,9 +97,9 @@ module _ (ts : List Task) (p : Plan) (sound : Sound ts p) (before : Pairs) (same
 
   dropped-strict : Strict (dropped (p .before) s)
   dropped-strict = record {
-      never-itself = λ a h. sound .never-itself a (and-parts _ _ h .0);
-      passes-on = λ a b c h k. let t = sound .passes-on a b c in grind arith
-    }
+    never-itself = λ a h. sound .never-itself a (and-parts _ _ h .0);
+    passes-on = λ a b c h k. let t = sound .passes-on a b c in grind arith;
+  }
 
   kept-chained : (x y : ℕ) → Holds (dropped (p .before) s) x y ↔ Chained Kept x y
   unfolding Kept
@@ -132,10 +133,13 @@ module _ (ts : List Task) (p : Plan) (sound : Sound ts p) (before : Pairs) (same
     where
       from-a : Listed x y pa → Inherits ts before (length (p .steps)) s m ss ls x y
       from-a h = let r = each-to-listed (λ z. p .before z s) x y (steps-of p) N .0 h in before-new (same x s .0 (r .1)) (upfrom-in (length (p .steps)) (length (m .steps)) y .0 (r .2))
+
       from-b : Listed x y pb → Inherits ts before (length (p .steps)) s m ss ls x y
       from-b h = let r = each-to-listed (λ z. p .before s z) y x (steps-of p) N .0 (turned-listed x y (each-to (λ z. p .before s z) (steps-of p) N) .0 h) in after-new (upfrom-in (length (p .steps)) (length (m .steps)) x .0 (r .2)) (same s y .0 (r .1))
+
       from-c : Listed x y pc → Inherits ts before (length (p .steps)) s m ss ls x y
       from-c h = let r = shifted-listed (length (p .steps)) x y (m .pairs) h in subst₂ (λ (u v : ℕ). Inherits ts before (length (p .steps)) s m ss ls u v) (sym (r .3)) (sym (r .4)) (in-method (r .0) (r .1) (r .2))
+
       from-d : Listed x y pd → Inherits ts before (length (p .steps)) s m ss ls x y
       from-d h = let r = link-pairs-listed ts ss ls x y h in by-link (r .0) (r .1) (r .2)
 
@@ -148,7 +152,7 @@ module _ (ts : List Task) (p : Plan) (sound : Sound ts p) (before : Pairs) (same
   in-pairs x y (after-new n h) =
       let k = same s y .1 h in
       inr (listed-append x y pa (pb ++ (pc ++ pd)) .1 (inr (listed-append x y pb (pc ++ pd) .1 (inl (turned-listed x y (each-to (λ z. p .before s z) (steps-of p) N) .1
-        (each-to-listed (λ z. p .before s z) y x (steps-of p) N .1 (sound .own-steps s y k .1, k, upfrom-in (length (p .steps)) (length (m .steps)) x .1 n)))))))
+      (each-to-listed (λ z. p .before s z) y x (steps-of p) N .1 (sound .own-steps s y k .1, k, upfrom-in (length (p .steps)) (length (m .steps)) x .1 n)))))))
   in-pairs _ _ (in-method a b h) =
       let x : ℕ = length (p .steps) + a in
       let y : ℕ = length (p .steps) + b in
@@ -158,22 +162,23 @@ module _ (ts : List Task) (p : Plan) (sound : Sound ts p) (before : Pairs) (same
 
   -- Where the decomposition is not refused, its order is strict, and exactly that of the book.
   pub order-as-book : (q : Plan) → decompose-step ts p s m ≡ Some q
-    → (q .steps ≡ decomposed ts as-book s m .steps) × (q .links ≡ decomposed ts as-book s m .links) × Strict (q .before) × ((x y : ℕ) → Holds (q .before) x y ↔ decomposed ts as-book s m .before x y)
+      → (q .steps ≡ decomposed ts as-book s m .steps) × (q .links ≡ decomposed ts as-book s m .links) × Strict (q .before) × ((x y : ℕ) → Holds (q .before) x y ↔ decomposed ts as-book s m .before x y)
   unfolding Kept ss ls
   order-as-book q e = at (try-all (Some (dropped (p .before) s)) (new-pairs ts p s m)) refl e
     where
       at : (o : Option Relation) → try-all (Some (dropped (p .before) s)) (new-pairs ts p s m) ≡ o → plan-with p s m o ≡ Some q
-        → (q .steps ≡ decomposed ts as-book s m .steps) × (q .links ≡ decomposed ts as-book s m .links) × Strict (q .before) × ((x y : ℕ) → Holds (q .before) x y ↔ decomposed ts as-book s m .before x y)
+          → (q .steps ≡ decomposed ts as-book s m .steps) × (q .links ≡ decomposed ts as-book s m .links) × Strict (q .before) × ((x y : ℕ) → Holds (q .before) x y ↔ decomposed ts as-book s m .before x y)
       at None t k = let w : ⊥ = grind arith in absurd w
       at (Some R) t k =
           let r = try-all-chained Kept (dropped (p .before) s) R (new-pairs ts p s m) dropped-strict kept-chained t in
           let pl : Plan = record { steps = steps-after p s m; links = links-after p s m; before = R } in
           let is : pl ≡ q = cc in
-          let both : (x y : ℕ) → Holds R x y ↔ decomposed ts as-book s m .before x y = λ x y.
-            (λ h. chained-same (Joined Kept (new-pairs ts p s m)) (Inherits ts before (length (p .steps)) s m ss ls) pairs-in (r .1 x y .0 h),
-             λ h. r .1 x y .1 (chained-same (Inherits ts before (length (p .steps)) s m ss ls) (Joined Kept (new-pairs ts p s m)) in-pairs h)) in
+          let both : (x y : ℕ) → Holds R x y ↔ decomposed ts as-book s m .before x y = λ x y. (
+            λ h. chained-same (Joined Kept (new-pairs ts p s m)) (Inherits ts before (length (p .steps)) s m ss ls) pairs-in (r .1 x y .0 h),
+            λ h. r .1 x y .1 (chained-same (Inherits ts before (length (p .steps)) s m ss ls) (Joined Kept (new-pairs ts p s m)) in-pairs h),
+          ) in
           subst (λ (q′ : Plan). (q′ .steps ≡ decomposed ts as-book s m .steps) × (q′ .links ≡ decomposed ts as-book s m .links) × Strict (q′ .before) × ((x y : ℕ) → Holds (q′ .before) x y ↔ decomposed ts as-book s m .before x y))
-            is (refl, refl, r .0, both)
+          is (refl, refl, r .0, both)
 
   -- Where it is refused, the book's order would have some step before itself.
   pub refused-circle : decompose-step ts p s m ≡ None → (x : ℕ) × decomposed ts as-book s m .before x x

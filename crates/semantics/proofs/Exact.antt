@@ -61,22 +61,22 @@ false-or false h = refl
 module _ (ts : List Task) (p : Plan) (sound : Sound ts p) (x : Executable ts p) where
   no-compound : compound-step ts p ≡ None
   no-compound = none-returned _ (none-such (λ s. not (is-primitive (task-of ts p s))) (steps-of p)
-    (λ s i. let t = sound .tasks-known s i in ap (λ o. not (is-primitive o)) (t .1) ∙ ap not (x .all-primitive s (t .0) (t .1))))
+      (λ s i. let t = sound .tasks-known s i in ap (λ o. not (is-primitive o)) (t .1) ∙ ap not (x .all-primitive s (t .0) (t .1))))
 
   no-open : (s : ℕ) → In s (steps-of p) → unlinked-at ts p s ≡ None
   no-open s i =
       let t = sound .tasks-known s i in
       let needs : needs-of (task-of ts p s) ≡ t .0 .needs = ap needs-of (t .1) in
       none-such (λ j. not (is-some (producer (p .links) s j))) (upfrom 0 (length (needs-of (task-of ts p s))))
-        (λ j k.
-          let b = upfrom-in 0 (length (needs-of (task-of ts p s))) j .0 k in
-          let f = nth-there (t .0 .needs) j (let z = ap length needs in omega (arith, b .1, z)) in
-          let l = x .all-linked s (t .0) (t .1) j (f .0) (f .1) in
-          ap not (supplied-some (p .links) s j (l .0) (l .1) (l .2) (l .3)))
+      (λ j k.
+      let b = upfrom-in 0 (length (needs-of (task-of ts p s))) j .0 k in
+      let f = nth-there (t .0 .needs) j (let z = ap length needs in omega (arith, b .1, z)) in
+      let l = x .all-linked s (t .0) (t .1) j (f .0) (f .1) in
+      ap not (supplied-some (p .links) s j (l .0) (l .1) (l .2) (l .3)))
 
   no-threat-at : (s : ℕ) → lowest-link (threatens ts p s) (p .links) ≡ None
   no-threat-at s = lowest-nothing (threatens ts p s) (p .links)
-    (λ l i. let f = sound .links-fit l i in false-or (threatens ts p s l) (λ h. x .no-threat l (f .0) i (f .1) s (tested-threat ts p l (f .0) s (f .1) h)))
+      (λ l i. let f = sound .links-fit l i in false-or (threatens ts p s l) (λ h. x .no-threat l (f .0) i (f .1) s (tested-threat ts p l (f .0) s (f .1) h)))
 
   nothing-open : need-unlinked ts p ≡ None
   nothing-open = ap at-label (found-nothing (unlinked-at ts p) (steps-of p) no-open)
@@ -87,7 +87,8 @@ module _ (ts : List Task) (p : Plan) (sound : Sound ts p) (x : Executable ts p) 
 pub judged-exactly : Judged-exactly
 judged-exactly capacity least most told =
     let st : State = state capacity told in
-    let good = in-step capacity told .good in
-    ( careful capacity .allowed st (lawful st good) Judge
-    , λ h. ap (λ (r : Row). r .code) (all-clear (causes capacity st Judge) (number-told st Judge)
-        (ap (λ (ph : Phase). outside ph (Refine ∷ [])) (h .0), (no-compound (st .tasks) (st .plan) (good .sound) (h .1), (nothing-open (st .tasks) (st .plan) (good .sound) (h .1), (nothing-threatened (st .tasks) (st .plan) (good .sound) (h .1), tt))))))
+    let good = in-step capacity told .good in (
+      careful capacity .allowed st (lawful st good) Judge,
+      λ h. ap (λ (r : Row). r .code) (all-clear (causes capacity st Judge) (number-told st Judge)
+          (ap (λ (ph : Phase). outside ph (Refine ∷ [])) (h .0), (no-compound (st .tasks) (st .plan) (good .sound) (h .1), (nothing-open (st .tasks) (st .plan) (good .sound) (h .1), (nothing-threatened (st .tasks) (st .plan) (good .sound) (h .1), tt))))),
+    )

@@ -95,41 +95,45 @@ A′ r code A = ((r ≡ Ok Judge) × (code ≡ 0)) ⊎ A
 
 -- a line that neither takes a step nor is accepted as a judge line
 idle : (ts : List Task) (p : Plan) (done : List ℕ) (b : Book) (T : ℕ → Type 0) (A : Type 0) (r : Result Command Refusal) (n : ℕ)
-  → ((c : Command) → r ≡ Ok c → n ≡ 0 → ⊥) → Inv ts p done b T A → Inv ts p done b (T′ r n T) (A′ r n A)
+    → ((c : Command) → r ≡ Ok c → n ≡ 0 → ⊥) → Inv ts p done b T A → Inv ts p done b (T′ r n T) (A′ r n A)
 idle ts p done b T A r n out inv = record {
-    executable = inv .executable;
-    in-order = inv .in-order;
-    facts = inv .facts;
-    same = λ s. (λ i. inr (inv .same s .0 i), λ i. ⊎-elim (λ z. absurd (out (Take s) (z .0) (z .1))) (inv .same s .1) i);
-    accepted = (λ a. ⊎-elim (λ z. absurd (out Judge (z .0) (z .1))) (inv .accepted .0) a, λ h. inr (inv .accepted .1 h))
-  }
+  executable = inv .executable;
+  in-order = inv .in-order;
+  facts = inv .facts;
+  same = λ s. (λ i. inr (inv .same s .0 i), λ i. ⊎-elim (λ z. absurd (out (Take s) (z .0) (z .1))) (inv .same s .1) i);
+  accepted = (λ a. ⊎-elim (λ z. absurd (out Judge (z .0) (z .1))) (inv .accepted .0) a, λ h. inr (inv .accepted .1 h));
+}
 
 take-step : (ts : List Task) (p : Plan) (done : List ℕ) (b : Book) (T : ℕ → Type 0) (A : Type 0) (s : ℕ) → b .phase ≡ Running
-  → ts ≡ b .tasks → p .steps ≡ b .plan .steps → CanTake p done s → Inv ts p done b T A
-  → Inv ts p (s ∷ done) (fed b (Ok (Take s)) 0) (T′ (Ok (Take s)) 0 T) (A′ (Ok (Take s)) 0 A)
+    → ts ≡ b .tasks → p .steps ≡ b .plan .steps → CanTake p done s → Inv ts p done b T A
+    → Inv ts p (s ∷ done) (fed b (Ok (Take s)) 0) (T′ (Ok (Take s)) 0 T) (A′ (Ok (Take s)) 0 A)
 take-step ts p done b T A s run same-tasks same-steps can inv = record {
-    executable = λ h. inv .executable run;
-    in-order = (can, inv .in-order);
-    facts = λ f. let r : is-running (b .phase) ≡ true = ap is-running run in
+  executable = λ h. inv .executable run;
+  in-order = (can, inv .in-order);
+  facts = λ f. let r : is-running (b .phase) ≡ true = ap is-running run in
       let same-facts : b .facts ≡ facts-after ts p done = fun-ext (inv .facts) in
       let same-task : task-in-book b s ≡ task-of ts p s = cc in
       rw r (ap₂ (λ (o : Option Task) (fs : Facts). after-step o fs f) same-task same-facts);
-    same = λ x. (λ i. ⊎-elim (λ e. inl (ap (λ (z : ℕ). Ok (Take z)) (sym e), refl)) (λ k. inr (inv .same x .0 k)) i,
-                 λ i. ⊎-elim (λ e. let q : _≡_ {A = Result Command Refusal} (Ok (Take s)) (Ok (Take x)) = e .0 in inl (cc)) (λ k. inr (inv .same x .1 k)) i);
-    accepted = (λ a. run, λ h. inr (inv .accepted .1 run))
-  }
+  same = λ x. (
+    λ i. ⊎-elim (λ e. inl (ap (λ (z : ℕ). Ok (Take z)) (sym e), refl)) (λ k. inr (inv .same x .0 k)) i,
+    λ i. ⊎-elim (λ e. let q : _≡_ {A = Result Command Refusal} (Ok (Take s)) (Ok (Take x)) = e .0 in inl (cc)) (λ k. inr (inv .same x .1 k)) i,
+  );
+  accepted = (λ a. run, λ h. inr (inv .accepted .1 run));
+}
 
 other-step : (ts : List Task) (p p′ : Plan) (ts′ : List Task) (b : Book) (T : ℕ → Type 0) (A : Type 0) (c : Command) → (b .phase ≡ Running → ⊥) → is-running (b .phase) ≡ false
-  → ((s : ℕ) → c ≡ Take s → ⊥) → (c ≡ Judge → Executable ts′ p′) → Inv ts p [] b T A
-  → Inv ts′ p′ [] (fed b (Ok c) 0) (T′ (Ok c) 0 T) (A′ (Ok c) 0 A)
+    → ((s : ℕ) → c ≡ Take s → ⊥) → (c ≡ Judge → Executable ts′ p′) → Inv ts p [] b T A
+    → Inv ts′ p′ [] (fed b (Ok c) 0) (T′ (Ok c) 0 T) (A′ (Ok c) 0 A)
 other-step ts p p′ ts′ b T A c out test no-take judged inv = record {
-    executable = λ h. judged (into-running c (b .phase) out h);
-    in-order = tt;
-    facts = λ f. ap (λ (fs : Facts). fs f) (facts-kept c b test) ∙ inv .facts f;
-    same = λ s. (λ i. absurd i, λ i. ⊎-elim (λ e. let q = e .0 in no-take s (cc)) (inv .same s .1) i);
-    accepted = (λ a. ⊎-elim (λ e. let q : c ≡ Judge = (let z = e .0 in cc) in ap (λ (k : Command). phase-after k (b .phase)) q) (λ k. absurd (out (inv .accepted .0 k))) a,
-                λ h. inl (ap Ok (into-running c (b .phase) out h), refl))
-  }
+  executable = λ h. judged (into-running c (b .phase) out h);
+  in-order = tt;
+  facts = λ f. ap (λ (fs : Facts). fs f) (facts-kept c b test) ∙ inv .facts f;
+  same = λ s. (λ i. absurd i, λ i. ⊎-elim (λ e. let q = e .0 in no-take s (cc)) (inv .same s .1) i);
+  accepted = (
+    λ a. ⊎-elim (λ e. let q : c ≡ Judge = (let z = e .0 in cc) in ap (λ (k : Command). phase-after k (b .phase)) q) (λ k. absurd (out (inv .accepted .0 k))) a,
+    λ h. inl (ap Ok (into-running c (b .phase) out h), refl),
+  );
+}
 
 -- what holds of a state, and of the book beside it
 pub record InStep (st : State) (b : Book) : Type 0 where
@@ -139,18 +143,18 @@ pub record InStep (st : State) (b : Book) : Type 0 where
 
 opened : InStep opening open-book
 opened = record {
-    good = record {
-      sound = opening-sound (opening .tasks) (omega arith);
-      two = omega arith;
-      unopened = λ e. refl;
-      framed = λ e. let w : ⊥ = grind arith in absurd w;
-      none-yet = λ e. refl;
-      fit = λ k m e. let w : ⊥ = grind arith in absurd w;
-      drafting = λ e. let w : ⊥ = grind arith in absurd w
-    };
-    alike = record { phase = refl; tasks = refl; methods = refl; draft = refl; plan = record { steps = refl; links = refl; order = λ x y. (λ h. (grind arith, grind arith), λ h. let p = h .0 in let q = h .1 in grind arith) } };
-    fresh = λ e. refl
-  }
+  good = record {
+    sound = opening-sound (opening .tasks) (omega arith);
+    two = omega arith;
+    unopened = λ e. refl;
+    framed = λ e. let w : ⊥ = grind arith in absurd w;
+    none-yet = λ e. refl;
+    fit = λ k m e. let w : ⊥ = grind arith in absurd w;
+    drafting = λ e. let w : ⊥ = grind arith in absurd w;
+  };
+  alike = record { phase = refl; tasks = refl; methods = refl; draft = refl; plan = record { steps = refl; links = refl; order = λ x y. (λ h. (grind arith, grind arith), λ h. let p = h .0 in let q = h .1 in grind arith) } };
+  fresh = λ e. refl;
+}
 
 -- the invariant at a state
 abbrev pub At : State → Book → (ℕ → Type 0) → Type 0 → Type 0
@@ -177,7 +181,7 @@ module _ (capacity : ℕ) where
 
   -- one accepted command
   accepted-command : (st : State) (b : Book) (T : ℕ → Type 0) (A : Type 0) (c : Command) → InStep st b → At st b T A → Allowed st c
-    → At (next st c) (fed b (Ok c) 0) (T′ (Ok c) 0 T) (A′ (Ok c) 0 A)
+      → At (next st c) (fed b (Ok c) 0) (T′ (Ok c) 0 T) (A′ (Ok c) 0 A)
   accepted-command st b T A c i inv a = ⊎-elim run rest (running-or-not (b .phase))
     where
       run : b .phase ≡ Running → At (next st c) (fed b (Ok c) 0) (T′ (Ok c) 0 T) (A′ (Ok c) 0 A)
@@ -185,24 +189,26 @@ module _ (capacity : ℕ) where
           let which = take-only st c (i .alike .phase ∙ r) a in
           let can : CanTake (st .plan) (st .taken) (which .0) = subst (Allowed st) (which .1) a .1 in
           subst (λ (k : Command). At (next st k) (fed b (Ok k) 0) (T′ (Ok k) 0 T) (A′ (Ok k) 0 A)) (sym (which .1))
-            (take-step (st .tasks) (st .plan) (st .taken) b T A (which .0) r (i .alike .tasks) (i .alike .plan .steps) can inv)
+          (take-step (st .tasks) (st .plan) (st .taken) b T A (which .0) r (i .alike .tasks) (i .alike .plan .steps) can inv)
+
       judged : c ≡ Judge → Executable (next st c .tasks) (next st c .plan)
       judged q = subst (λ (k : Command). Executable (next st k .tasks) (next st k .plan)) (sym q) (subst (Allowed st) q a .1)
+
       rest : ((b .phase ≡ Running → ⊥) × (is-running (b .phase) ≡ false)) → At (next st c) (fed b (Ok c) 0) (T′ (Ok c) 0 T) (A′ (Ok c) 0 A)
       rest out =
           let out′ : st .phase ≡ Running → ⊥ = λ r. out .0 (sym (i .alike .phase) ∙ r) in
           let no-take = not-take st c out′ a in
           let inv₀ : Inv (st .tasks) (st .plan) [] b T A = subst (λ (d : List ℕ). Inv (st .tasks) (st .plan) d b T A) (i .fresh out′) inv in
           subst (λ (d : List ℕ). Inv (next st c .tasks) (next st c .plan) d (fed b (Ok c) 0) (T′ (Ok c) 0 T) (A′ (Ok c) 0 A)) (sym (taken-kept c st no-take ∙ i .fresh out′))
-            (other-step (st .tasks) (st .plan) (next st c .plan) (next st c .tasks) b T A c (out .0) (out .1) no-take judged inv₀)
+          (other-step (st .tasks) (st .plan) (next st c .plan) (next st c .tasks) b T A c (out .0) (out .1) no-take judged inv₀)
 
   one-command : (st : State) (b : Book) (T : ℕ → Type 0) (A : Type 0) (c : Command) → InStep st b → At st b T A → (n : ℕ) → verdict capacity st c .code ≡ n
-    → At (state-for st (Ok c) n) (fed b (Ok c) n) (T′ (Ok c) n T) (A′ (Ok c) n A)
+      → At (state-for st (Ok c) n) (fed b (Ok c) n) (T′ (Ok c) n T) (A′ (Ok c) n A)
   one-command st b T A c i inv zero e = accepted-command st b T A c i inv (allowed-at st b i c e)
   one-command st b T A c i inv (suc n) e = idle (st .tasks) (st .plan) (st .taken) b T A (Ok c) (suc n) (λ d q z. omega arith) inv
 
   one-line : (st : State) (b : Book) (T : ℕ → Type 0) (A : Type 0) (r : Result Command Refusal) → InStep st b → At st b T A
-    → At (state-for st r (row-for capacity st r .code)) (fed b r (row-for capacity st r .code)) (T′ r (row-for capacity st r .code) T) (A′ r (row-for capacity st r .code) A)
+      → At (state-for st r (row-for capacity st r .code)) (fed b r (row-for capacity st r .code)) (T′ r (row-for capacity st r .code) T) (A′ r (row-for capacity st r .code) A)
   one-line st b T A (Err e) i inv = idle (st .tasks) (st .plan) (st .taken) b T A (Err e) (row-for capacity st (Err e) .code) (λ d q z. let w : _≡_ {A = ℕ} 0 1 = cc in omega arith) inv
   one-line st b T A (Ok c) i inv = one-command st b T A c i inv (verdict capacity st c .code) refl
 

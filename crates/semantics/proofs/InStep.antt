@@ -44,12 +44,15 @@ at-tasks : (st : State) (us : List Task) → st .phase ≡ Tasks → length (st 
 at-tasks st us e h g = rw e (good-tasks (st .tasks) us (st .methods) (st .draft) (st .plan) h (rw e at g))
 
 framed-step : (p : Plan) (t : ℕ) → In 0 (steps-of p) × In 1 (steps-of p) × Holds (p .before) 0 1 → In 0 (steps-of (plan-step p t)) × In 1 (steps-of (plan-step p t)) × Holds (plan-step p t .before) 0 1
-framed-step p t f = (more-in (p .steps) t 0 0 (f .0), more-in (p .steps) t 0 1 (f .1),
-  put-old (put (p .before) 0 (length (p .steps))) (length (p .steps)) 1 0 1 (put-old (p .before) 0 (length (p .steps)) 0 1 (f .2)))
+framed-step p t f = (
+  more-in (p .steps) t 0 0 (f .0),
+  more-in (p .steps) t 0 1 (f .1),
+  put-old (put (p .before) 0 (length (p .steps))) (length (p .steps)) 1 0 1 (put-old (p .before) 0 (length (p .steps)) 0 1 (f .2)),
+)
 
 -- a pair or a link told to the plan, in phase initial or refine
 in-initial : (st : State) (q : Plan) → st .phase ≡ Initial → Sound (st .tasks) q → In 0 (steps-of q) × In 1 (steps-of q) × Holds (q .before) 0 1 → GoodState st
-  → Good Initial (st .tasks) (st .methods) (st .draft) q
+    → Good Initial (st .tasks) (st .methods) (st .draft) q
 in-initial st q e s f g = good-plan Initial (st .tasks) (st .methods) (st .draft) (st .plan) q (inl refl) s (λ z. f) (rw e at g)
 
 in-refine : (st : State) (q : Plan) → st .phase ≡ Refine → Sound (st .tasks) q → GoodState st → Good Refine (st .tasks) (st .methods) (st .draft) q
@@ -57,7 +60,7 @@ in-refine st q e s g = good-plan Refine (st .tasks) (st .methods) (st .draft) (s
 
 -- the plan after a decomposition that is not refused
 pub plan-x : (st : State) (s m : ℕ) → st .phase ≡ Refine → (n : Method) → nth (st .methods) m ≡ Some n → (q : Plan) → decompose-step (st .tasks) (st .plan) s n ≡ Some q
-  → next st (Decompose s m) .plan ≡ q
+    → next st (Decompose s m) .plan ≡ q
 plan-x st s m e n hn q hq =
     ap (λ (ph : Phase). cond (is-refine ph) (with-plan st (decompose-with (st .tasks) (st .plan) s (nth (st .methods) m))) st .plan) e
     ∙ (ap (decompose-with (st .tasks) (st .plan) s) hn ∙ ap (plan-or (st .plan)) hq)
@@ -69,26 +72,26 @@ good-at-step : (st : State) (t : ℕ) → GoodState st → Allowed st (NewStep t
 good-at-step st t g a = ⊎-elim
     (λ e. rw e (good-draft MethodOpen (st .tasks) (st .methods) (st .draft) (step-of (st .draft) t) (st .plan) (inr refl) (draft-step (st .tasks) (st .draft) t (a .0 .0) (a .0 .1) (g .drafting e)) (rw e at g)))
     (λ e. let f = g .framed e in rw e (good-plan Initial (st .tasks) (st .methods) (st .draft) (st .plan) (plan-step (st .plan) t) (inl refl)
-      (step-sound (st .tasks) (st .plan) t (a .0 .0) (a .0 .1) (g .sound) (f .0) (f .1) (f .2)) (λ q. framed-step (st .plan) t f) (rw e at g)))
+    (step-sound (st .tasks) (st .plan) t (a .0 .0) (a .0 .1) (g .sound) (f .0) (f .1) (f .2)) (λ q. framed-step (st .plan) t f) (rw e at g)))
     (a .1)
 
 good-at-order : (st : State) (p : ℕ) (q : ℕ) → GoodState st → Allowed st (PutOrder p q) → GoodState (next st (PutOrder p q))
 good-at-order st p q g a = ⊎-elim
     (λ b. let e = b .0 in rw e (good-draft MethodOpen (st .tasks) (st .methods) (st .draft) (order-of (st .draft) p q) (st .plan) (inr refl) (draft-order (st .tasks) (st .draft) p q (b .1) (b .2) (g .drafting e)) (rw e at g)))
     (λ b.
-      let s = order-sound (st .tasks) (st .plan) (g .sound) (Holds (st .plan .before)) (λ x y. (λ k. k, λ k. k)) p q (b .1) (b .2) (b .3) (b .4) in
-      let frame : (st .phase ≡ Initial) → In 0 (steps-of (st .plan)) × In 1 (steps-of (st .plan)) × Holds (put (st .plan .before) p q) 0 1 = λ e. let f = g .framed e in (f .0, f .1, put-old (st .plan .before) p q 0 1 (f .2)) in
-      ⊎-elim (λ e. rw e (in-initial st (plan-order (st .plan) p q) e s (frame e) g)) (λ e. rw e (in-refine st (plan-order (st .plan) p q) e s g)) (b .0))
+    let s = order-sound (st .tasks) (st .plan) (g .sound) (Holds (st .plan .before)) (λ x y. (λ k. k, λ k. k)) p q (b .1) (b .2) (b .3) (b .4) in
+    let frame : (st .phase ≡ Initial) → In 0 (steps-of (st .plan)) × In 1 (steps-of (st .plan)) × Holds (put (st .plan .before) p q) 0 1 = λ e. let f = g .framed e in (f .0, f .1, put-old (st .plan .before) p q 0 1 (f .2)) in
+    ⊎-elim (λ e. rw e (in-initial st (plan-order (st .plan) p q) e s (frame e) g)) (λ e. rw e (in-refine st (plan-order (st .plan) p q) e s g)) (b .0))
     a
 
 good-at-link : (st : State) (p : ℕ) (i : ℕ) (q : ℕ) (j : ℕ) → GoodState st → Allowed st (PutLink p i q j) → GoodState (next st (PutLink p i q j))
 good-at-link st p i q j g a = ⊎-elim
     (λ b. let e = b .0 in rw e (good-draft MethodOpen (st .tasks) (st .methods) (st .draft) (link-of (st .draft) (record { producer = p; add = i; consumer = q; need = j })) (st .plan) (inr refl) (draft-link (st .tasks) (st .draft) (record { producer = p; add = i; consumer = q; need = j }) (b .1) (g .drafting e)) (rw e at g)))
     (λ b.
-      let l : Link = record { producer = p; add = i; consumer = q; need = j } in
-      let s = link-sound (st .tasks) (st .plan) (g .sound) (Holds (st .plan .before)) (λ x y. (λ k. k, λ k. k)) l (b .1) in
-      let frame : (st .phase ≡ Initial) → In 0 (steps-of (st .plan)) × In 1 (steps-of (st .plan)) × Holds (plan-link (st .tasks) (st .plan) l .before) 0 1 = λ e. let f = g .framed e in (f .0, f .1, link-keeps (st .tasks) (st .plan) (g .sound) (Holds (st .plan .before)) (λ x y. (λ k. k, λ k. k)) l 0 1 (f .2)) in
-      ⊎-elim (λ e. rw e (in-initial st (plan-link (st .tasks) (st .plan) l) e s (frame e) g)) (λ e. rw e (in-refine st (plan-link (st .tasks) (st .plan) l) e s g)) (b .0))
+    let l : Link = record { producer = p; add = i; consumer = q; need = j } in
+    let s = link-sound (st .tasks) (st .plan) (g .sound) (Holds (st .plan .before)) (λ x y. (λ k. k, λ k. k)) l (b .1) in
+    let frame : (st .phase ≡ Initial) → In 0 (steps-of (st .plan)) × In 1 (steps-of (st .plan)) × Holds (plan-link (st .tasks) (st .plan) l .before) 0 1 = λ e. let f = g .framed e in (f .0, f .1, link-keeps (st .tasks) (st .plan) (g .sound) (Holds (st .plan .before)) (λ x y. (λ k. k, λ k. k)) l 0 1 (f .2)) in
+    ⊎-elim (λ e. rw e (in-initial st (plan-link (st .tasks) (st .plan) l) e s (frame e) g)) (λ e. rw e (in-refine st (plan-link (st .tasks) (st .plan) l) e s g)) (b .0))
     a
 
 good-at-need-goes : (st : State) (j : ℕ) (s : ℕ) (k : ℕ) → GoodState st → Allowed st (RouteNeed j s k) → GoodState (next st (RouteNeed j s k))
@@ -157,8 +160,8 @@ alike-at-step : (st : State) (t : ℕ) (b : Book) → GoodState st → Allowed s
 alike-at-step st t b g a al = ⊎-elim
     (λ e. let f : b .phase ≡ MethodOpen = sym (al .phase) ∙ e in rw (e, f) (al .plan))
     (λ e. let f : b .phase ≡ Initial = sym (al .phase) ∙ e in rw (e, f)
-      (subst (λ (z : BookPlan). PlanAlike (plan-step (st .plan) t) (write-step z t)) (by-plan-is (st .plan) (b .plan) (al .plan))
-        (record { steps = refl; links = refl; order = step-alike (st .tasks) (st .plan) (g .sound) (b .plan .before) (al .plan .order) t })))
+    (subst (λ (z : BookPlan). PlanAlike (plan-step (st .plan) t) (write-step z t)) (by-plan-is (st .plan) (b .plan) (al .plan))
+    (record { steps = refl; links = refl; order = step-alike (st .tasks) (st .plan) (g .sound) (b .plan .before) (al .plan .order) t })))
     (a .1)
 
 alike-at-order : (st : State) (p : ℕ) (q : ℕ) (b : Book) → GoodState st → Allowed st (PutOrder p q) → Alike st b → PlanAlike ((next st (PutOrder p q) .plan)) (enter (PutOrder p q) b .plan)
@@ -173,9 +176,9 @@ alike-at-link : (st : State) (p : ℕ) (i : ℕ) (q : ℕ) (j : ℕ) (b : Book) 
 alike-at-link st p i q j b g a al =
     let l : Link = record { producer = p; add = i; consumer = q; need = j } in
     let there : PlanAlike (plan-link (st .tasks) (st .plan) l) (write-link (b .tasks) (b .plan) l) =
-      subst (λ (ts : List Task). PlanAlike (plan-link (st .tasks) (st .plan) l) (write-link ts (b .plan) l)) (al .tasks)
-      (subst (λ (z : BookPlan). PlanAlike (plan-link (st .tasks) (st .plan) l) (write-link (st .tasks) z l)) (by-plan-is (st .plan) (b .plan) (al .plan))
-        (record { steps = refl; links = refl; order = link-alike (st .tasks) (st .plan) (g .sound) (b .plan .before) (al .plan .order) l })) in
+    subst (λ (ts : List Task). PlanAlike (plan-link (st .tasks) (st .plan) l) (write-link ts (b .plan) l)) (al .tasks)
+    (subst (λ (z : BookPlan). PlanAlike (plan-link (st .tasks) (st .plan) l) (write-link (st .tasks) z l)) (by-plan-is (st .plan) (b .plan) (al .plan))
+    (record { steps = refl; links = refl; order = link-alike (st .tasks) (st .plan) (g .sound) (b .plan .before) (al .plan .order) l })) in
     ⊎-elim
     (λ m. let e = m .0 in let f : b .phase ≡ MethodOpen = sym (al .phase) ∙ e in rw (e, f) (al .plan))
     (λ m. ⊎-elim (λ e. let f : b .phase ≡ Initial = sym (al .phase) ∙ e in rw (e, f) there) (λ e. let f : b .phase ≡ Refine = sym (al .phase) ∙ e in rw (e, f) there) (m .0))
@@ -189,11 +192,11 @@ alike-at-decompose st s m b g a al =
     let hn : nth (b .methods) m ≡ Some n = ap (λ (ms : List Method). nth ms m) (sym (al .methods)) ∙ a .1 .1 in
     let r = order-as-book (st .tasks) (st .plan) (g .sound) (b .plan .before) (al .plan .order) s n q (a .1 .3 .1) in
     let there : PlanAlike q (decomposed (b .tasks) (b .plan) s n) =
-      subst (λ (ts : List Task). PlanAlike q (decomposed ts (b .plan) s n)) (al .tasks)
-      (subst (λ (z : BookPlan). PlanAlike q (decomposed (st .tasks) z s n)) (by-plan-is (st .plan) (b .plan) (al .plan))
-        (record { steps = r .0; links = r .1; order = r .3 })) in
+    subst (λ (ts : List Task). PlanAlike q (decomposed ts (b .plan) s n)) (al .tasks)
+    (subst (λ (z : BookPlan). PlanAlike q (decomposed (st .tasks) z s n)) (by-plan-is (st .plan) (b .plan) (al .plan))
+    (record { steps = r .0; links = r .1; order = r .3 })) in
     let book-is : decomposed (b .tasks) (b .plan) s n ≡ enter (Decompose s m) b .plan =
-      sym (ap (λ (ph : Phase). cond (is-refine ph) (decompose-by b s (nth (b .methods) m)) b .plan) f ∙ ap (λ (o : Option Method). decompose-by b s o .plan) hn) in
+    sym (ap (λ (ph : Phase). cond (is-refine ph) (decompose-by b s (nth (b .methods) m)) b .plan) f ∙ ap (λ (o : Option Method). decompose-by b s o .plan) hn) in
     subst₂ (λ (x : Plan) (z : BookPlan). PlanAlike x z) (sym (plan-x st s m (a .0) n (a .1 .1) q (a .1 .3 .1))) book-is there
 
 alike-at-take : (st : State) (s : ℕ) (b : Book) → GoodState st → Allowed st (Take s) → Alike st b → PlanAlike ((next st (Take s) .plan)) (enter (Take s) b .plan)
@@ -219,9 +222,9 @@ plan-alike st (Take s) b g a al = alike-at-take st s b g a al
 
 pub alike-next : (st : State) (l : Command) (b : Book) → GoodState st → Allowed st l → Alike st b → Alike (next st l) (fed b (Ok l) 0)
 alike-next st l b g a al = record {
-    phase = ap (phase-after l) (al .phase);
-    tasks = tasks-alike l st b (al .phase) (al .tasks);
-    methods = methods-alike l st b (al .phase) (al .draft) (al .methods);
-    draft = draft-alike l st b (al .phase) (al .draft);
-    plan = plan-alike st l b g a al
-  }
+  phase = ap (phase-after l) (al .phase);
+  tasks = tasks-alike l st b (al .phase) (al .tasks);
+  methods = methods-alike l st b (al .phase) (al .draft) (al .methods);
+  draft = draft-alike l st b (al .phase) (al .draft);
+  plan = plan-alike st l b g a al;
+}

@@ -162,6 +162,7 @@ module _ (ts : List Task) (p : Plan) (sound : Sound ts p) (s : ℕ) (m : Method)
           let a = from-end (r .0) (fit .0) (fit .1) in
           let b = to-end (r .0) (fit .0) (fit .1) in
           subst Ends (sym (r .2)) (fit .0, a .0, b .0, a .1, b .1, a .2, b .2)
+
       new : Linked l (map (renumbered n) (m .links)) → Ends l
       new h =
           let r = linked-map (renumbered n) l (m .links) h in
@@ -214,13 +215,13 @@ module _ (ts : List Task) (p : Plan) (sound : Sound ts p) (s : ℕ) (m : Method)
       old : (t : ℕ) → nth (set (p .steps) s None) x ≡ Some (Some t) → (u : Task) × (nth ts t ≡ Some u)
       old t h = ⊎-elim
           (λ e. let k = nth-set-same (p .steps) s None (Some (m .task)) is-s in
-                let h′ : nth (set (p .steps) s None) s ≡ Some (Some t) = subst (λ (z : ℕ). nth (set (p .steps) s None) z ≡ Some (Some t)) e h in
-                let w : ⊥ = grind arith in absurd w)
+          let h′ : nth (set (p .steps) s None) s ≡ Some (Some t) = subst (λ (z : ℕ). nth (set (p .steps) s None) z ≡ Some (Some t)) e h in
+          let w : ⊥ = grind arith in absurd w)
           (λ apart.
-                let g : nth (p .steps) x ≡ Some (Some t) = sym (nth-set-other (p .steps) s x None apart) ∙ h in
-                let inside = rw add-zero at (number-in (p .steps) 0 x t g) in
-                let u = sound .tasks-known x inside in
-                (u .0, sym (ap (at-task ts) g) ∙ u .1))
+          let g : nth (p .steps) x ≡ Some (Some t) = sym (nth-set-other (p .steps) s x None apart) ∙ h in
+          let inside = rw add-zero at (number-in (p .steps) 0 x t g) in
+          let u = sound .tasks-known x inside in
+          (u .0, sym (ap (at-task ts) g) ∙ u .1))
           (cases-eq x s)
 
   -- A step of a sound plan decomposed by a method that fits leaves the plan sound.
@@ -231,17 +232,20 @@ module _ (ts : List Task) (p : Plan) (sound : Sound ts p) (s : ℕ) (m : Method)
       let pl : Plan = record { steps = ss; links = links-after p s m; before = q .before } in
       let is : pl ≡ q = λ i. record { steps = sym (r .0) i; links = sym (r .1) i; before = q .before } in
       subst (Sound ts) is (record {
-        links-fit = λ l k. let d = ends l k in (d .0, record {
+        links-fit = λ l k. let d = ends l k in (
+          d .0,
+          record {
             giver = d .1;
             taker = d .2;
             gives = d .3;
             takes = d .4;
             added = d .5;
             needed = d .6;
-            ordered = λ g h. r .3 (l .producer) (l .consumer) .1 (pair (by-link l k (refl, refl, (d .1, d .3, g), (d .2, d .4, h))))
-          });
+            ordered = λ g h. r .3 (l .producer) (l .consumer) .1 (pair (by-link l k (refl, refl, (d .1, d .3, g), (d .2, d .4, h))));
+          },
+        );
         never-itself = r .2 .never-itself;
         passes-on = r .2 .passes-on;
         tasks-known = known;
-        own-steps = λ a b h. chained-into _ (λ x y. Stays x × Stays y) both-stay (λ x y z u v. (u .0, v .1)) (r .3 a b .0 h)
+        own-steps = λ a b h. chained-into _ (λ x y. Stays x × Stays y) both-stay (λ x y z u v. (u .0, v .1)) (r .3 a b .0 h);
       })

@@ -252,11 +252,11 @@ module _ (capacity : ℕ) (st : State) (lim : Limits capacity st) where
       let l : Link = record { producer = p; add = i; consumer = q; need = j } in
       let k : (not (has-link l (links-now st)) && leb (links-limit st) (length (links-now st))) ≡ false = when-none _ (c .1 .1 .1 .0) in
       ⊎-elim
-        (λ e. rw e (lim .links))
-        (λ z. ⊎-elim
-          (λ e. rw e (with-length (st .plan .links) l 256 (lim .links) (rw e at k)))
-          (λ y. ⊎-elim (λ e. rw e (with-length (st .plan .links) l 256 (lim .links) (rw e at k))) (λ x. absurd x) y) z)
-        (inside (st .phase) (MethodOpen ∷ Initial ∷ Refine ∷ []) (c .0))
+      (λ e. rw e (lim .links))
+      (λ z. ⊎-elim
+      (λ e. rw e (with-length (st .plan .links) l 256 (lim .links) (rw e at k)))
+      (λ y. ⊎-elim (λ e. rw e (with-length (st .plan .links) l 256 (lim .links) (rw e at k))) (λ x. absurd x) y) z)
+      (inside (st .phase) (MethodOpen ∷ Initial ∷ Refine ∷ []) (c .0))
 
   step-links : (t : ℕ) → length ((next st (NewStep t) .plan) .links) ≤ 256
   step-links t = let k = lim .links in grind arith
@@ -303,15 +303,15 @@ module _ (capacity : ℕ) (st : State) (lim : Limits capacity st) where
   pub limits-next : (l : Command) → Clear (causes capacity st l) → Limits capacity (next st l)
   unfolding Lists Opened
   limits-next l c = record {
-      tasks = tasks-kept l c;
-      lists = lists-kept l c;
-      methods = methods-kept l c;
-      open-counts = λ h. opened-kept l c h .0;
-      each = each-kept l c;
-      open-one = λ h. opened-kept l c h .1;
-      steps = fits-next capacity st (lim .steps) l c;
-      links = links-kept l c
-    }
+    tasks = tasks-kept l c;
+    lists = lists-kept l c;
+    methods = methods-kept l c;
+    open-counts = λ h. opened-kept l c h .0;
+    each = each-kept l c;
+    open-one = λ h. opened-kept l c h .1;
+    steps = fits-next capacity st (lim .steps) l c;
+    links = links-kept l c;
+  }
 
   limits-after : (l : Command) (n : ℕ) → verdict capacity st l .code ≡ n → Limits capacity (state-for st (Ok l) n)
   limits-after l zero e = limits-next l (numbered-all capacity st l e)
@@ -328,13 +328,13 @@ opening-lists (suc (suc k)) t e = let w : ⊥ = grind arith in absurd w
 
 pub limits-hold : Limits-hold
 limits-hold capacity least [] = record {
-    tasks = omega arith;
-    lists = opening-lists;
-    methods = omega arith;
-    open-counts = λ h. omega arith;
-    each = λ k m e. let w : ⊥ = grind arith in absurd w;
-    open-one = λ h. (omega arith, omega arith);
-    steps = least;
-    links = omega arith
-  }
+  tasks = omega arith;
+  lists = opening-lists;
+  methods = omega arith;
+  open-counts = λ h. omega arith;
+  each = λ k m e. let w : ⊥ = grind arith in absurd w;
+  open-one = λ h. (omega arith, omega arith);
+  steps = least;
+  links = omega arith;
+}
 limits-hold capacity least (line ∷ told) = limits-line capacity (state capacity told) (limits-hold capacity least told) (parsed line)

@@ -54,17 +54,27 @@ module _ (ts : List Task) (p : Plan) (sound : Sound ts p) (B : Pairs) (same : (x
   order-sound a b ia ib apart back =
       let s = put-strict (p .before) a b strict apart back in
       record {
-        links-fit = λ l i. let r = sound .links-fit l i in (r .0, record {
-            giver = r .1 .giver; taker = r .1 .taker; gives = r .1 .gives; takes = r .1 .takes; added = r .1 .added; needed = r .1 .needed;
-            ordered = λ g t. put-old (p .before) a b (l .producer) (l .consumer) (r .1 .ordered g t)
-          });
+        links-fit = λ l i. let r = sound .links-fit l i in (
+          r .0,
+          record {
+            giver = r .1 .giver;
+            taker = r .1 .taker;
+            gives = r .1 .gives;
+            takes = r .1 .takes;
+            added = r .1 .added;
+            needed = r .1 .needed;
+            ordered = λ g t. put-old (p .before) a b (l .producer) (l .consumer) (r .1 .ordered g t);
+          },
+        );
         never-itself = s .never-itself;
         passes-on = s .passes-on;
         tasks-known = sound .tasks-known;
         own-steps = λ x y h. ⊎-elim (sound .own-steps x y)
-          (λ t. (⊎-elim (λ e. subst (λ (z : ℕ). In z (steps-of p)) (sym e) ia) (λ k. sound .own-steps x a k .0) (t .0),
-                 ⊎-elim (λ e. subst (λ (z : ℕ). In z (steps-of p)) e ib) (λ k. sound .own-steps b y k .1) (t .1)))
-          (put-cases (p .before) a b x y h)
+            (λ t. (
+              ⊎-elim (λ e. subst (λ (z : ℕ). In z (steps-of p)) (sym e) ia) (λ k. sound .own-steps x a k .0) (t .0),
+              ⊎-elim (λ e. subst (λ (z : ℕ). In z (steps-of p)) e ib) (λ k. sound .own-steps b y k .1) (t .1),
+            ))
+            (put-cases (p .before) a b x y h);
       }
 
   pub link-alike : (l : Link) (x y : ℕ) → Holds (plan-link ts p l .before) x y ↔ Chained (λ u v. B u v ⊎ LinkPair ts (p .steps) l u v) x y
@@ -72,20 +82,24 @@ module _ (ts : List Task) (p : Plan) (sound : Sound ts p) (B : Pairs) (same : (x
     where
       Q : Pairs
       Q u v = B u v ⊎ LinkPair ts (p .steps) l u v
+
       none : (primitive-at ts (p .steps) (l .producer) && primitive-at ts (p .steps) (l .consumer)) ≡ false → (u v : ℕ) → Q u v → B u v
       none e u v (inl k) = k
       none e u v (inr k) =
           let a = primitive-there ts (p .steps) (l .producer) .1 (subst (Primitive ts (p .steps)) (k .0) (k .2)) in
           let b = primitive-there ts (p .steps) (l .consumer) .1 (subst (Primitive ts (p .steps)) (k .1) (k .3)) in
           let w : ⊥ = grind arith in absurd w
+
       plain : (primitive-at ts (p .steps) (l .producer) && primitive-at ts (p .steps) (l .consumer)) ≡ false → Holds (p .before) x y ↔ Chained Q x y
       plain e = let c = closed (p .before) B (sound .passes-on) same x y in (λ h. chained-same B Q (λ u v k. inl k) (c .0 h), λ h. c .1 (chained-same Q B (none e) h))
+
       at : (b c : Bool) → primitive-at ts (p .steps) (l .producer) ≡ b → primitive-at ts (p .steps) (l .consumer) ≡ c
-        → Holds (cond (b && c) (put (p .before) (l .producer) (l .consumer)) (p .before)) x y ↔ Chained Q x y
+          → Holds (cond (b && c) (put (p .before) (l .producer) (l .consumer)) (p .before)) x y ↔ Chained Q x y
       at true true e f =
-          let c = order-alike (l .producer) (l .consumer) x y in
-          (λ h. chained-same (And B (l .producer) (l .consumer)) Q (λ u v k. ⊎-elim (λ m. inl m) (λ m. inr (m .0, m .1, subst (Primitive ts (p .steps)) (sym (m .0)) (primitive-there ts (p .steps) (l .producer) .0 e), subst (Primitive ts (p .steps)) (sym (m .1)) (primitive-there ts (p .steps) (l .consumer) .0 f))) k) (c .0 h),
-           λ h. c .1 (chained-same Q (And B (l .producer) (l .consumer)) (λ u v k. ⊎-elim (λ m. inl m) (λ m. inr (m .0, m .1)) k) h))
+          let c = order-alike (l .producer) (l .consumer) x y in (
+            λ h. chained-same (And B (l .producer) (l .consumer)) Q (λ u v k. ⊎-elim (λ m. inl m) (λ m. inr (m .0, m .1, subst (Primitive ts (p .steps)) (sym (m .0)) (primitive-there ts (p .steps) (l .producer) .0 e), subst (Primitive ts (p .steps)) (sym (m .1)) (primitive-there ts (p .steps) (l .consumer) .0 f))) k) (c .0 h),
+            λ h. c .1 (chained-same Q (And B (l .producer) (l .consumer)) (λ u v k. ⊎-elim (λ m. inl m) (λ m. inr (m .0, m .1)) k) h),
+          )
       at true false e f = plain (grind arith)
       at false true e f = plain (grind arith)
       at false false e f = plain (grind arith)
@@ -100,8 +114,8 @@ module _ (ts : List Task) (p : Plan) (sound : Sound ts p) (B : Pairs) (same : (x
   primitive-is x t h e = ap is-primitive (sym h) ∙ e
 
   either : (l : Link) (c : Bool) → (c ≡ true → Sound ts (plan-order p (l .producer) (l .consumer)))
-    → Strict (cond c (put (p .before) (l .producer) (l .consumer)) (p .before))
-    × ((x y : ℕ) → Holds (cond c (put (p .before) (l .producer) (l .consumer)) (p .before)) x y → In x (steps-of p) × In y (steps-of p))
+      → Strict (cond c (put (p .before) (l .producer) (l .consumer)) (p .before))
+      × ((x y : ℕ) → Holds (cond c (put (p .before) (l .producer) (l .consumer)) (p .before)) x y → In x (steps-of p) × In y (steps-of p))
   either l true o = let s = o refl in (record { never-itself = s .never-itself; passes-on = s .passes-on }, s .own-steps)
   either l false o = (strict, sound .own-steps)
 
@@ -112,28 +126,44 @@ module _ (ts : List Task) (p : Plan) (sound : Sound ts p) (B : Pairs) (same : (x
       let ib = step-in ts p (l .consumer) (room .taker) (room .takes) in
       let c : Bool = primitive-at ts (p .steps) (l .producer) && primitive-at ts (p .steps) (l .consumer) in
       let o : c ≡ true → Sound ts (plan-order p (l .producer) (l .consumer)) = λ e.
-        let b = and-parts (primitive-at ts (p .steps) (l .producer)) (primitive-at ts (p .steps) (l .consumer)) e in
-        order-sound (l .producer) (l .consumer) ia ib (room .apart) (room .not-back (primitive-is (l .producer) (room .giver) (room .gives) (b .0)) (primitive-is (l .consumer) (room .taker) (room .takes) (b .1))) in
+      let b = and-parts (primitive-at ts (p .steps) (l .producer)) (primitive-at ts (p .steps) (l .consumer)) e in
+      order-sound (l .producer) (l .consumer) ia ib (room .apart) (room .not-back (primitive-is (l .producer) (room .giver) (room .gives) (b .0)) (primitive-is (l .consumer) (room .taker) (room .takes) (b .1))) in
       let s = either l c o in
       record {
         links-fit = λ k i. ⊎-elim
-          (λ j. let r = sound .links-fit k j in (r .0, record {
-            giver = r .1 .giver; taker = r .1 .taker; gives = r .1 .gives; takes = r .1 .takes; added = r .1 .added; needed = r .1 .needed;
-            ordered = λ g t. link-keeps l (k .producer) (k .consumer) (r .1 .ordered g t)
-          }))
-          (λ e. subst (λ (z : Link). (f : ℕ) × Protects ts (plan-link ts p l) z f) (sym e) (room .f, record {
-            giver = room .giver; taker = room .taker; gives = room .gives; takes = room .takes; added = room .added; needed = room .needed;
-            ordered = λ g t.
-              let a = primitive-there ts (p .steps) (l .producer) .1 (room .giver, room .gives, g) in
-              let b = primitive-there ts (p .steps) (l .consumer) .1 (room .taker, room .takes, t) in
-              let n = put-new (p .before) (l .producer) (l .consumer) (l .producer) (l .consumer) (inl refl) (inl refl) in
-              rw (a, b) n
-          }))
-          (linked-with k l (p .links) i);
+            (λ j. let r = sound .links-fit k j in (
+              r .0,
+              record {
+                giver = r .1 .giver;
+                taker = r .1 .taker;
+                gives = r .1 .gives;
+                takes = r .1 .takes;
+                added = r .1 .added;
+                needed = r .1 .needed;
+                ordered = λ g t. link-keeps l (k .producer) (k .consumer) (r .1 .ordered g t);
+              },
+            ))
+            (λ e. subst (λ (z : Link). (f : ℕ) × Protects ts (plan-link ts p l) z f) (sym e) (
+              room .f,
+              record {
+                giver = room .giver;
+                taker = room .taker;
+                gives = room .gives;
+                takes = room .takes;
+                added = room .added;
+                needed = room .needed;
+                ordered = λ g t.
+                    let a = primitive-there ts (p .steps) (l .producer) .1 (room .giver, room .gives, g) in
+                    let b = primitive-there ts (p .steps) (l .consumer) .1 (room .taker, room .takes, t) in
+                    let n = put-new (p .before) (l .producer) (l .consumer) (l .producer) (l .consumer) (inl refl) (inl refl) in
+                    rw (a, b) n;
+              },
+            ))
+            (linked-with k l (p .links) i);
         never-itself = s .0 .never-itself;
         passes-on = s .0 .passes-on;
         tasks-known = sound .tasks-known;
-        own-steps = s .1
+        own-steps = s .1;
       }
 
 -- one step more at the end of the steps
@@ -177,24 +207,30 @@ wider p t = record { steps = p .steps ++ (Some t ∷ []); links = p .links; befo
 wider-sound : (ts : List Task) (p : Plan) (t : ℕ) (u : Task) → nth ts t ≡ Some u → Sound ts p → Sound ts (wider p t)
 unfolding wider
 wider-sound ts p t u known sound = record {
-    links-fit = λ l i. let r = sound .links-fit l i in (r .0, record {
-        giver = r .1 .giver; taker = r .1 .taker;
-        gives = more-steps ts (p .steps) t (l .producer) (r .1 .giver) (r .1 .gives);
-        takes = more-steps ts (p .steps) t (l .consumer) (r .1 .taker) (r .1 .takes);
-        added = r .1 .added; needed = r .1 .needed; ordered = r .1 .ordered
-      });
-    never-itself = sound .never-itself;
-    passes-on = sound .passes-on;
-    tasks-known = λ s i. ⊎-elim
+  links-fit = λ l i. let r = sound .links-fit l i in (
+    r .0,
+    record {
+      giver = r .1 .giver;
+      taker = r .1 .taker;
+      gives = more-steps ts (p .steps) t (l .producer) (r .1 .giver) (r .1 .gives);
+      takes = more-steps ts (p .steps) t (l .consumer) (r .1 .taker) (r .1 .takes);
+      added = r .1 .added;
+      needed = r .1 .needed;
+      ordered = r .1 .ordered;
+    },
+  );
+  never-itself = sound .never-itself;
+  passes-on = sound .passes-on;
+  tasks-known = λ s i. ⊎-elim
       (λ j. let r = sound .tasks-known s j in (r .0, more-steps ts (p .steps) t s (r .0) (r .1)))
       (λ e. let e′ : s ≡ length (p .steps) = omega arith in (u, ap (λ (z : ℕ). at-task ts (nth (p .steps ++ (Some t ∷ [])) z)) e′ ∙ (ap (at-task ts) (last-step (p .steps) t) ∙ known)))
       (in-more (p .steps) t 0 s i);
-    own-steps = λ a b h. let o = sound .own-steps a b h in (more-in (p .steps) t 0 a (o .0), more-in (p .steps) t 0 b (o .1))
-  }
+  own-steps = λ a b h. let o = sound .own-steps a b h in (more-in (p .steps) t 0 a (o .0), more-in (p .steps) t 0 b (o .1));
+}
 
 -- A new step after step 0 and before step 1 keeps a plan sound in which these two stand so.
 pub step-sound : (ts : List Task) (p : Plan) (t : ℕ) (u : Task) → nth ts t ≡ Some u → Sound ts p
-  → In 0 (steps-of p) → In 1 (steps-of p) → Holds (p .before) 0 1 → Sound ts (plan-step p t)
+    → In 0 (steps-of p) → In 1 (steps-of p) → Holds (p .before) 0 1 → Sound ts (plan-step p t)
 unfolding wider
 step-sound ts p t u known sound i₀ i₁ h =
     let n : ℕ = length (p .steps) in
@@ -206,6 +242,6 @@ step-sound ts p t u known sound i₀ i₁ h =
     let q = wider p t in
     let first = order-sound ts q w (Holds (p .before)) (λ x y. (λ k. k, λ k. k)) 0 n (more-in (p .steps) t 0 0 i₀) new (away 0 i₀) (λ k. away n (sound .own-steps n 0 k .0) refl) in
     order-sound ts (plan-order q 0 n) first (Holds (put (p .before) 0 n)) (λ x y. (λ k. k, λ k. k)) n 1 new (more-in (p .steps) t 0 1 i₁) (λ e. away 1 i₁ (sym e))
-      (λ k. ⊎-elim (λ m. away n (sound .own-steps 1 n m .1) refl)
-        (λ m. ⊎-elim (λ e. let z : ⊥ = omega arith in z) (λ r. sound .never-itself 0 (sound .passes-on 0 1 0 h r)) (m .0))
-        (put-cases (p .before) 0 n 1 n k))
+    (λ k. ⊎-elim (λ m. away n (sound .own-steps 1 n m .1) refl)
+    (λ m. ⊎-elim (λ e. let z : ⊥ = omega arith in z) (λ r. sound .never-itself 0 (sound .passes-on 0 1 0 h r)) (m .0))
+    (put-cases (p .before) 0 n 1 n k))

@@ -70,26 +70,25 @@ behind-taken p [] t x s i h = i
 behind-taken p (d ∷ ds) t x s i h = let ih = behind-taken p ds (t .1) x s in let b = t .0 .behind x in grind arith
 
 module _ (ts : List Task) (p : Plan) (sound : Sound ts p) (exec : Executable ts p) where
-
   -- While the producer of a link is taken and its consumer is not, no step that is taken deletes its fact.
   spares : (l : Link) (f : ℕ) → Linked l (p .links) → Protects ts p l f → (done : List ℕ) → Taken p done → In (l .producer) done
-    → (s : ℕ) (t : Task) → task-of ts p s ≡ Some t → CanTake p done s → (In (l .consumer) done → ⊥) → (s ≡ l .consumer → ⊥) → among f (t .deletes) ≡ false
+      → (s : ℕ) (t : Task) → task-of ts p s ≡ Some t → CanTake p done s → (In (l .consumer) done → ⊥) → (s ≡ l .consumer → ⊥) → among f (t .deletes) ≡ false
   spares l f il pr done taken ip s t e can out apart = ⊎-elim (λ d. absurd (exec .no-threat l f il pr s (threat d))) (λ d. d) (cases-bool (among f (t .deletes)))
     where
       threat : among f (t .deletes) ≡ true → Threat ts p l f s
       threat d = record {
-          task = t;
-          is-step = e;
-          deletes = among-in f (t .deletes) d;
-          not-producer = λ h. can .untaken (subst (λ (x : ℕ). In x done) (sym h) ip);
-          not-consumer = apart;
-          not-before = λ h. can .untaken (behind-taken p done taken s (l .producer) ip h);
-          not-after = λ h. out (can .behind (l .consumer) h)
-        }
+        task = t;
+        is-step = e;
+        deletes = among-in f (t .deletes) d;
+        not-producer = λ h. can .untaken (subst (λ (x : ℕ). In x done) (sym h) ip);
+        not-consumer = apart;
+        not-before = λ h. can .untaken (behind-taken p done taken s (l .producer) ip h);
+        not-after = λ h. out (can .behind (l .consumer) h);
+      }
 
   -- From the taking of its producer until that of its consumer, the fact of a link holds.
   pub link-holds : (l : Link) (f : ℕ) → Linked l (p .links) → Protects ts p l f → (done : List ℕ) → Taken p done
-    → In (l .producer) done → (In (l .consumer) done → ⊥) → facts-after ts p done f ≡ true
+      → In (l .producer) done → (In (l .consumer) done → ⊥) → facts-after ts p done f ≡ true
   link-holds l f il pr [] taken ip out = absurd ip
   link-holds l f il pr (s ∷ ss) taken (inl e) out =
       let a = in-among f (pr .giver .adds) (labelled-in (pr .giver .adds) (l .add) f (pr .added)) in
@@ -104,7 +103,7 @@ module _ (ts : List Task) (p : Plan) (sound : Sound ts p) (exec : Executable ts 
           grind arith
 
   pub needs-met : (done : List ℕ) → Taken p done → (s : ℕ) (t : Task) → task-of ts p s ≡ Some t → CanTake p done s
-    → (f : ℕ) → In f (t .needs) → facts-after ts p done f ≡ true
+      → (f : ℕ) → In f (t .needs) → facts-after ts p done f ≡ true
   needs-met done taken s t e can f i =
       let j = in-labelled (t .needs) f i in
       let found = exec .all-linked s t e (j .0) f (j .1) in
@@ -119,7 +118,7 @@ module _ (ts : List Task) (p : Plan) (sound : Sound ts p) (exec : Executable ts 
       let same : fit .0 ≡ f = cc in
       let before : Holds (p .before) (l .producer) (l .consumer) = pr .ordered (exec .all-primitive (l .producer) (pr .giver) (pr .gives)) (exec .all-primitive (l .consumer) (pr .taker) (pr .takes)) in
       subst (λ (g : ℕ). facts-after ts p done g ≡ true) same
-        (link-holds l (fit .0) (found .1) pr done taken (can .behind (l .producer) (subst (λ (c : ℕ). Holds (p .before) (l .producer) c) to-s before)) (λ k. can .untaken (subst (λ (c : ℕ). In c done) to-s k)))
+      (link-holds l (fit .0) (found .1) pr done taken (can .behind (l .producer) (subst (λ (c : ℕ). Holds (p .before) (l .producer) c) to-s before)) (λ k. can .untaken (subst (λ (c : ℕ). In c done) to-s k)))
 
 pub needs-are-met : Needs-are-met
 needs-are-met = needs-met
@@ -154,17 +153,19 @@ some-step-is-next ts p sound done x i out = at (left done (steps-of p)) refl (le
     at (m ∷ ms) e k =
         let f = first (p .before) (strict ts p sound) m ms in
         let s : ℕ = f .0 in
-        let here = in-left done (steps-of p) s (subst (λ (ls : List ℕ). In s ls) (sym e) (f .1)) in
-        (s, record {
+        let here = in-left done (steps-of p) s (subst (λ (ls : List ℕ). In s ls) (sym e) (f .1)) in (
+          s,
+          record {
             present = here .0;
             untaken = λ d. let b = in-among s done d in grind arith;
             behind = λ y h. ⊎-elim (λ d. among-in y done d)
-              (λ d. absurd (f .2 y (subst (λ (ls : List ℕ). In y ls) e (left-in done (steps-of p) y (sound .own-steps y s h .0) d)) h)) (cases-bool (among y done))
-          })
+                (λ d. absurd (f .2 y (subst (λ (ls : List ℕ). In y ls) e (left-in done (steps-of p) y (sound .own-steps y s h .0) d)) h)) (cases-bool (among y done));
+          },
+        )
 
 pub threat-comes-true : Threat-comes-true
 threat-comes-true ts p sound prim l f il pr s th =
     order-between (p .before) (strict ts p sound) (steps-of p) (numbers-once (p .steps) 0) (l .producer) s (l .consumer)
-      (step-in ts p (l .producer) (pr .giver) (pr .gives)) (step-in ts p s (th .task) (th .is-step)) (step-in ts p (l .consumer) (pr .taker) (pr .takes))
-      (th .not-producer) (th .not-consumer) (th .not-before) (th .not-after)
-      (pr .ordered (prim (l .producer) (pr .giver) (pr .gives)) (prim (l .consumer) (pr .taker) (pr .takes)))
+    (step-in ts p (l .producer) (pr .giver) (pr .gives)) (step-in ts p s (th .task) (th .is-step)) (step-in ts p (l .consumer) (pr .taker) (pr .takes))
+    (th .not-producer) (th .not-consumer) (th .not-before) (th .not-after)
+    (pr .ordered (prim (l .producer) (pr .giver) (pr .gives)) (prim (l .consumer) (pr .taker) (pr .takes)))

@@ -70,7 +70,7 @@ module _ (capacity : ℕ) (least : 2 ≤ capacity) (most : capacity ≤ 64) (tol
   code-of line c n e h = ap (λ (r : Row). r .code) (sym (told-same capacity (state capacity told) line c e)) ∙ h
 
   needs-met : (line : List ℕ) (s : ℕ) → Tells line (Take s) → answered capacity told line .code ≡ 0
-    → (t : Task) × (task-in-book (book capacity told) s ≡ Some t) × ((f : ℕ) → In f (t .needs) → book capacity told .facts f ≡ true)
+      → (t : Task) × (task-in-book (book capacity told) s ≡ Some t) × ((f : ℕ) → In f (t .needs) → book capacity told .facts f ≡ true)
   unfolding st b
   needs-met line s e h =
       let r = can s (code-of line (Take s) 0 e h) in
@@ -79,15 +79,15 @@ module _ (capacity : ℕ) (least : 2 ≤ capacity) (most : capacity ≤ 64) (tol
       (t .0, same-task s ∙ t .1, λ f i. here .facts f ∙ needs-are-met (st .tasks) (st .plan) sound x (st .taken) (here .in-order) s (t .0) (t .1) (r .1) f i)
 
   facts-answered : (line : List ℕ) (s : ℕ) → Tells line (Take s) → answered capacity told line .code ≡ 0
-    → answered capacity told line .a ≡ as-sum (book capacity (line ∷ told) .facts)
+      → answered capacity told line .a ≡ as-sum (book capacity (line ∷ told) .facts)
   unfolding st b
   facts-answered line s e h =
       let c = code-of line (Take s) 0 e h in
       let after : state capacity (line ∷ told) ≡ next st (Take s) = (λ i. state-for st (e i) (row-for capacity st (e i) .code)) ∙ ap (state-for st (Ok (Take s))) c in
       let now : facts-after (st .tasks) (st .plan) (s ∷ st .taken) ≡ facts-after (state capacity (line ∷ told) .tasks) (state capacity (line ∷ told) .plan) (state capacity (line ∷ told) .taken) =
-        ap (λ (x : State). facts-after (x .tasks) (x .plan) (x .taken)) (sym after) in
+      ap (λ (x : State). facts-after (x .tasks) (x .plan) (x .taken)) (sym after) in
       let same : book capacity (line ∷ told) .facts ≡ facts-after (state capacity (line ∷ told) .tasks) (state capacity (line ∷ told) .plan) (state capacity (line ∷ told) .taken) =
-        fun-ext (always capacity (line ∷ told) .facts) in
+      fun-ext (always capacity (line ∷ told) .facts) in
       ap (λ (r : Row). r .a) (told-same capacity st line (Take s) e) ∙ (careful capacity .sums st s c ∙ ap as-sum (now ∙ sym same))
 
   count-answered : (line : List ℕ) → Tells line Judge → answered capacity told line .code ≡ 0 → answered capacity told line .a ≡ length (present-from 0 (book capacity told .plan .steps))
@@ -99,11 +99,11 @@ module _ (capacity : ℕ) (least : 2 ≤ capacity) (most : capacity ≤ 64) (tol
   as-in-the-book : AsInTheBook capacity told
   unfolding st b
   as-in-the-book = record {
-      tasks = step .alike .tasks;
-      steps = step .alike .plan .steps;
-      order = step .alike .plan .order;
-      links = λ l h. subst (Linked l) (sym (step .alike .plan .links)) h
-    }
+    tasks = step .alike .tasks;
+    steps = step .alike .plan .steps;
+    order = step .alike .plan .order;
+    links = λ l h. subst (Linked l) (sym (step .alike .plan .links)) h;
+  }
 
   in-plan : (s : ℕ) → IsStep capacity told s → In s (steps-of (st .plan))
   unfolding st b
@@ -120,26 +120,31 @@ module _ (capacity : ℕ) (least : 2 ≤ capacity) (most : capacity ≤ 64) (tol
       let few = few-steps capacity least told in
       let tells = take-text s (omega arith) in
       ap (λ (r : Row). r .code) (told-same capacity st (text-of (Take s)) (Take s) tells)
-      ∙ careful capacity .takes st (lawful st (step .good)) s (step .alike .phase ∙ here .accepted .0 a, record {
-        present = in-plan s (fore .step);
-        untaken = λ i. fore .untaken (here .same s .0 i);
-        behind = λ x h. ⊎-elim (λ i. i)
-          (λ n. absurd (fore .none-left x (in-book x (sound .own-steps x s h .0)) (step .alike .plan .order x s .0 h) (λ i. n (here .same x .1 i))))
-          (in-or-not x (st .taken))
-      })
+      ∙ careful capacity .takes st (lawful st (step .good)) s (
+        step .alike .phase ∙ here .accepted .0 a,
+        record {
+          present = in-plan s (fore .step);
+          untaken = λ i. fore .untaken (here .same s .0 i);
+          behind = λ x h. ⊎-elim (λ i. i)
+              (λ n. absurd (fore .none-left x (in-book x (sound .own-steps x s h .0)) (step .alike .plan .order x s .0 h) (λ i. n (here .same x .1 i))))
+              (in-or-not x (st .taken));
+        },
+      )
 
   some-foremost : Accepted capacity told → (x : ℕ) → IsStep capacity told x → (IsTaken capacity told x → ⊥) → (s : ℕ) × Foremost capacity told s
   unfolding st b
   some-foremost a x i n =
-      let r = some-step-is-next (st .tasks) (st .plan) sound (st .taken) x (in-plan x i) (λ k. n (here .same x .0 k)) in
-      (r .0, record {
-        step = in-book (r .0) (r .1 .present);
-        untaken = λ k. r .1 .untaken (here .same (r .0) .1 k);
-        none-left = λ y k h m. m (here .same y .0 (r .1 .behind y (step .alike .plan .order y (r .0) .1 h)))
-      })
+      let r = some-step-is-next (st .tasks) (st .plan) sound (st .taken) x (in-plan x i) (λ k. n (here .same x .0 k)) in (
+        r .0,
+        record {
+          step = in-book (r .0) (r .1 .present);
+          untaken = λ k. r .1 .untaken (here .same (r .0) .1 k);
+          none-left = λ y k h m. m (here .same y .0 (r .1 .behind y (step .alike .plan .order y (r .0) .1 h)));
+        },
+      )
 
   threat-shown : (line : List ℕ) → Tells line Judge → answered capacity told line .code ≡ 16
-    → BetweenInSomeOrder capacity told (answered capacity told line .b) (answered capacity told line .a) (answered capacity told line .c)
+      → BetweenInSomeOrder capacity told (answered capacity told line .b) (answered capacity told line .a) (answered capacity told line .c)
   unfolding st b
   threat-shown line e h =
       let q = told-same capacity st line Judge e in
@@ -149,21 +154,21 @@ module _ (capacity : ℕ) (least : 2 ≤ capacity) (most : capacity ≤ 64) (tol
       subst (λ (r : Row). BetweenInSomeOrder capacity told (r .b) (r .a) (r .c)) (sym q) (record {
         order = o .0;
         permitted = permitted-less (Before capacity told) (Holds (st .plan .before)) (present-from 0 (book capacity told .plan .steps)) (o .0) (λ x y k. step .alike .plan .order x y .1 k)
-          (subst (λ (os : List (Option ℕ)). Permitted (present-from 0 os) (Holds (st .plan .before)) (o .0)) (step .alike .plan .steps) (o .1));
+            (subst (λ (os : List (Option ℕ)). Permitted (present-from 0 os) (Holds (st .plan .before)) (o .0)) (step .alike .plan .steps) (o .1));
         producer-first = subst (λ (x : ℕ). Earlier (o .0) x (verdict capacity st Judge .a)) (sym (th .1 .5)) (o .2);
-        consumer-last = subst (λ (x : ℕ). Earlier (o .0) (verdict capacity st Judge .a) x) (sym (th .1 .6)) (o .3)
+        consumer-last = subst (λ (x : ℕ). Earlier (o .0) (verdict capacity st Judge .a) x) (sym (th .1 .6)) (o .3);
       })
 
   pub promises : Promises capacity told
   promises = record {
-      needs-met = needs-met;
-      facts-answered = facts-answered;
-      foremost-can = foremost-can;
-      some-foremost = some-foremost;
-      as-in-the-book = λ a. as-in-the-book;
-      count-answered = count-answered;
-      threat-comes-true = threat-shown
-    }
+    needs-met = needs-met;
+    facts-answered = facts-answered;
+    foremost-can = foremost-can;
+    some-foremost = some-foremost;
+    as-in-the-book = λ a. as-in-the-book;
+    count-answered = count-answered;
+    threat-comes-true = threat-shown;
+  }
 
 pub promise-holds : Promise-holds
 promise-holds = promises

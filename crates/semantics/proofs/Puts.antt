@@ -31,6 +31,6 @@ no-circle R ps s (Some S) e x h =
 
 pub puts-are-the-closure : Puts-are-the-closure
 puts-are-the-closure = record {
-    closure = λ R ps S s e. try-all-chained (Holds R) R S ps s (own-closure R (s .passes-on)) e;
-    circle = λ R ps s. (λ e. try-all-refused (Holds R) R ps (own-closure R (s .passes-on)) e, λ c. no-circle R ps s (try-all (Some R) ps) refl (c .0) (c .1))
-  }
+  closure = λ R ps S s e. try-all-chained (Holds R) R S ps s (own-closure R (s .passes-on)) e;
+  circle = λ R ps s. (λ e. try-all-refused (Holds R) R ps (own-closure R (s .passes-on)) e, λ c. no-circle R ps s (try-all (Some R) ps) refl (c .0) (c .1));
+}

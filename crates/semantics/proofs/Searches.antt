@@ -165,8 +165,8 @@ producer-linked [] s j h = let w : ⊥ = grind arith in absurd w
 producer-linked (l ∷ ls) s j h = at (producer-linked ls s j) (eqb (l .consumer) s && eqb (l .need) j) refl h
   where
     at : (is-some (producer ls s j) ≡ true → (k : Link) × Linked k ls × (k .consumer ≡ s) × (k .need ≡ j))
-      → (b : Bool) → (eqb (l .consumer) s && eqb (l .need) j) ≡ b → is-some (cond b (lower-of (l .producer) (producer ls s j)) (producer ls s j)) ≡ true
-      → (k : Link) × Linked k (l ∷ ls) × (k .consumer ≡ s) × (k .need ≡ j)
+        → (b : Bool) → (eqb (l .consumer) s && eqb (l .need) j) ≡ b → is-some (cond b (lower-of (l .producer) (producer ls s j)) (producer ls s j)) ≡ true
+        → (k : Link) × Linked k (l ∷ ls) × (k .consumer ≡ s) × (k .need ≡ j)
     at ih true e k = let p = and-parts (eqb (l .consumer) s) (eqb (l .need) j) e in (l, inl refl, eqb-true (l .consumer) s (p .0), eqb-true (l .need) j (p .1))
     at ih false e k = let r = ih k in (r .0, inr (r .1), r .2, r .3)
 
@@ -185,9 +185,11 @@ lowest-some test (k ∷ ks) l h = at (λ q. lowest-some test ks l q) (test k) (l
   where
     here : test k ≡ true → k ≡ l → Linked l (k ∷ ks) × (test l ≡ true)
     here e q = (inl (sym q), ap test (sym q) ∙ e)
+
     pick : (lowest-link test ks ≡ Some l → Linked l ks × (test l ≡ true)) → (m : Link) (b : Bool) → test k ≡ true → lowest-link test ks ≡ Some m → _≡_ {A = Option Link} (Some (cond b m k)) (Some l) → Linked l (k ∷ ks) × (test l ≡ true)
     pick ih m true e q z = let r = ih (q ∙ z) in (inr (r .0), r .1)
     pick ih m false e q z = here e (cc)
+
     at : (lowest-link test ks ≡ Some l → Linked l ks × (test l ≡ true)) → (b : Bool) (o : Option Link) → test k ≡ b → lowest-link test ks ≡ o → lowest-with b k o ≡ Some l → Linked l (k ∷ ks) × (test l ≡ true)
     at ih true None e q z = here e (cc)
     at ih true (Some m) e q z = pick ih m (lower m k) e q z

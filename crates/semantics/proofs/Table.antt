@@ -38,7 +38,7 @@ by-lowest m (r ∷ rs) told h = at (by-lowest (r .0) rs told (and-parts (ltb m (
         record {
           accepted = λ z. let a = ih .accepted z in (λ n v i. ⊎-elim (out n v) (a .0 n v) i, a .1, a .2, a .3);
           applies = λ z. inr (ih .applies z);
-          lowest = λ n v i. ⊎-elim (λ k. absurd (out n v k)) (ih .lowest n v) i
+          lowest = λ n v i. ⊎-elim (λ k. absurd (out n v k)) (ih .lowest n v) i;
         }
     at ih (Some v) e =
         let p = and-parts (ltb m (r .0)) (rising (r .0) rs) h in
@@ -46,7 +46,7 @@ by-lowest m (r ∷ rs) told h = at (by-lowest (r .0) rs told (and-parts (ltb m (
         record {
           accepted = λ z. let w : ⊥ = omega arith in absurd w;
           applies = λ z. inl (refl, e);
-          lowest = λ n u i. ⊎-elim (λ q. let x = q .0 in omega arith) (λ j. let b = above (r .0) rs (p .1) n u j in omega arith) i
+          lowest = λ n u i. ⊎-elim (λ q. let x = q .0 in omega arith) (λ j. let b = above (r .0) rs (p .1) n u j in omega arith) i;
         }
 
 pub lowest-cause : Lowest-cause

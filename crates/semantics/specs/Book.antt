@@ -44,10 +44,10 @@ pub record Book : Type 1 where
 -- a new step of the plan, after step 0 and before step 1
 abbrev pub write-step : BookPlan → ℕ → BookPlan
 write-step p t = record {
-    steps = p .steps ++ (Some t ∷ []);
-    links = p .links;
-    before = Chained (And (And (p .before) 0 (length (p .steps))) (length (p .steps)) 1)
-  }
+  steps = p .steps ++ (Some t ∷ []);
+  links = p .links;
+  before = Chained (And (And (p .before) 0 (length (p .steps))) (length (p .steps)) 1);
+}
 
 -- a pair of the plan
 abbrev pub write-order : BookPlan → ℕ → ℕ → BookPlan
@@ -56,10 +56,10 @@ write-order p a b = record { steps = p .steps; links = p .links; before = Chaine
 -- a link of the plan, with its pair where both ends are primitive
 abbrev pub write-link : List Task → BookPlan → Link → BookPlan
 write-link ts p l = record {
-    steps = p .steps;
-    links = with-link (p .links) l;
-    before = Chained (λ x y. p .before x y ⊎ LinkPair ts (p .steps) l x y)
-  }
+  steps = p .steps;
+  links = with-link (p .links) l;
+  before = Chained (λ x y. p .before x y ⊎ LinkPair ts (p .steps) l x y);
+}
 
 -- Step s is decomposed by m: it leaves, the method's steps get the next numbers, links are passed down and the method's join,
 -- and the order is the smallest transitive relation that holds the inherited pairs.
@@ -154,10 +154,10 @@ feed b line code = fed b (parsed line) code
 -- the book as it opens: phase tasks, init and goal, 0 before 1, and no facts
 abbrev pub open-book : Book
 open-book = record {
-    phase = Tasks;
-    tasks = first-tasks;
-    methods = [];
-    draft = blank 0;
-    plan = record { steps = Some 0 ∷ Some 1 ∷ []; links = []; before = λ x y. (x ≡ 0) × (y ≡ 1) };
-    facts = λ f. false
-  }
+  phase = Tasks;
+  tasks = first-tasks;
+  methods = [];
+  draft = blank 0;
+  plan = record { steps = Some 0 ∷ Some 1 ∷ []; links = []; before = λ x y. (x ≡ 0) × (y ≡ 1) };
+  facts = λ f. false;
+}

@@ -39,21 +39,21 @@ Lowest-cause = (capacity : ℕ) (st : State) (c : Command) → By-lowest (causes
 pub record Names-lowest (capacity : ℕ) (st : State) : Type 0 where
   -- 13: a is before s and untaken, and every lower step before s is taken
   pub untaken : (s : ℕ) → verdict capacity st (Take s) .code ≡ 13
-    → Holds (st .plan .before) (verdict capacity st (Take s) .a) s × (In (verdict capacity st (Take s) .a) (st .taken) → ⊥)
-    × ((x : ℕ) → In x (steps-of (st .plan)) → x < verdict capacity st (Take s) .a → Holds (st .plan .before) x s → In x (st .taken))
+      → Holds (st .plan .before) (verdict capacity st (Take s) .a) s × (In (verdict capacity st (Take s) .a) (st .taken) → ⊥)
+      × ((x : ℕ) → In x (steps-of (st .plan)) → x < verdict capacity st (Take s) .a → Holds (st .plan .before) x s → In x (st .taken))
   -- 14: a is compound, and every lower step is primitive
   pub compound : verdict capacity st Judge .code ≡ 14
-    → ((t : Task) → task-of (st .tasks) (st .plan) (verdict capacity st Judge .a) ≡ Some t → t .primitive ≡ false)
-    × ((x : ℕ) (t : Task) → x < verdict capacity st Judge .a → task-of (st .tasks) (st .plan) x ≡ Some t → t .primitive ≡ true)
+      → ((t : Task) → task-of (st .tasks) (st .plan) (verdict capacity st Judge .a) ≡ Some t → t .primitive ≡ false)
+      × ((x : ℕ) (t : Task) → x < verdict capacity st Judge .a → task-of (st .tasks) (st .plan) x ≡ Some t → t .primitive ≡ true)
   -- 15: need b of step a has no link, and every need of a lower step, and every lower need of a, has one
   pub unlinked : verdict capacity st Judge .code ≡ 15
-    → (Supplied (st .plan) (verdict capacity st Judge .a) (verdict capacity st Judge .b) → ⊥)
-    × ((x j f : ℕ) (t : Task) → task-of (st .tasks) (st .plan) x ≡ Some t → Labelled (t .needs) j f
+      → (Supplied (st .plan) (verdict capacity st Judge .a) (verdict capacity st Judge .b) → ⊥)
+      × ((x j f : ℕ) (t : Task) → task-of (st .tasks) (st .plan) x ≡ Some t → Labelled (t .needs) j f
       → (x < verdict capacity st Judge .a) ⊎ ((x ≡ verdict capacity st Judge .a) × (j < verdict capacity st Judge .b)) → Supplied (st .plan) x j)
   -- 16: no threat is lower, by threat, then producer, then consumer
   pub threat : verdict capacity st Judge .code ≡ 16
-    → (l : Link) (f s : ℕ) → Linked l (st .plan .links) → Protects (st .tasks) (st .plan) l f → Threat (st .tasks) (st .plan) l f s
-    → (verdict capacity st Judge .a < s) ⊎ ((verdict capacity st Judge .a ≡ s)
+      → (l : Link) (f s : ℕ) → Linked l (st .plan .links) → Protects (st .tasks) (st .plan) l f → Threat (st .tasks) (st .plan) l f s
+      → (verdict capacity st Judge .a < s) ⊎ ((verdict capacity st Judge .a ≡ s)
       × ((verdict capacity st Judge .b < l .producer) ⊎ ((verdict capacity st Judge .b ≡ l .producer) × (verdict capacity st Judge .c ≤ l .consumer))))
 
 abbrev pub Lowest-named : Type 0
@@ -62,13 +62,13 @@ Lowest-named = (capacity : ℕ) (st : State) → Names-lowest capacity st
 -- J is accepted exactly where the plan can be refined and is executable.
 abbrev pub Judged-exactly : Type 0
 Judged-exactly = (capacity : ℕ) → 2 ≤ capacity → capacity ≤ 64 → (told : History)
-  → (verdict capacity (state capacity told) Judge .code ≡ 0) ↔ ((state capacity told .phase ≡ Refine) × Executable (state capacity told .tasks) (state capacity told .plan))
+    → (verdict capacity (state capacity told) Judge .code ≡ 0) ↔ ((state capacity told .phase ≡ Refine) × Executable (state capacity told .tasks) (state capacity told .plan))
 
 -- From its opening a domain holds only methods that fit their tasks, and a plan is sound: it holds only links that fit.
 abbrev pub Only-fitting : Type 0
 Only-fitting = (capacity : ℕ) (told : History)
-  → ((k : ℕ) (m : Method) → nth (state capacity told .methods) k ≡ Some m → Fits (state capacity told .tasks) m)
-  × Sound (state capacity told .tasks) (state capacity told .plan)
+    → ((k : ℕ) (m : Method) → nth (state capacity told .methods) k ≡ Some m → Fits (state capacity told .tasks) m)
+    × Sound (state capacity told .tasks) (state capacity told .plan)
 
 -- a task's lists hold at most 32 facts each; a method has at most 8 steps and 16 links
 abbrev pub Short-lists : Task → Type 0

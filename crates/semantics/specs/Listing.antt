@@ -64,8 +64,8 @@ abbrev pub examples : List Example
 examples =
     -- the listing
     example (decomposed-plan ++ codes "J|R,0|R,3|R,4|R,1")
-      ((as-row 0 2 0 0 ∷ as-row 0 3 0 0 ∷ as-row 0 4 0 0 ∷ zeros 11) ++ ((as-row 0 1 0 0 ∷ zeros 5) ++ ((as-row 0 2 0 0 ∷ zeros 3)
-      ++ (as-row 0 3 0 0 ∷ as-row 0 4 0 0 ∷ as-row 0 1 0 0 ∷ as-row 0 3 0 0 ∷ as-row 0 7 0 0 ∷ as-row 0 7 0 0 ∷ []))))
+    ((as-row 0 2 0 0 ∷ as-row 0 3 0 0 ∷ as-row 0 4 0 0 ∷ zeros 11) ++ ((as-row 0 1 0 0 ∷ zeros 5) ++ ((as-row 0 2 0 0 ∷ zeros 3)
+    ++ (as-row 0 3 0 0 ∷ as-row 0 4 0 0 ∷ as-row 0 1 0 0 ∷ as-row 0 3 0 0 ∷ as-row 0 7 0 0 ∷ as-row 0 7 0 0 ∷ []))))
     -- no step but init and goal
     ∷ example (codes "E|E|E|J") (as-row 0 2 0 0 ∷ [])
     -- without X, a compound step is left
@@ -79,7 +79,7 @@ examples =
     ∷ example (plan-with-clear ++ codes "O,5,3|J") (as-row 0 5 0 0 ∷ [])
     -- a consumer that deletes what it needs is no threat to its own link
     ∷ example (declared ++ (facts-told ++ (codes "D,3,1|" ++ (method-told ++ (codes "V,0,1,0|K|E|S,4|" ++ (links-told ++ codes "X,2,0|J|R,0|R,3|R,4"))))))
-      (as-row 0 4 0 0 ∷ as-row 0 1 0 0 ∷ as-row 0 3 0 0 ∷ as-row 0 5 0 0 ∷ [])
+    (as-row 0 4 0 0 ∷ as-row 0 1 0 0 ∷ as-row 0 3 0 0 ∷ as-row 0 5 0 0 ∷ [])
     -- steps out of order, and a step taken twice
     ∷ example (decomposed-plan ++ codes "J|R,0|R,4") (as-row 13 3 0 0 ∷ [])
     ∷ example (decomposed-plan ++ codes "J|R,3") (as-row 13 0 0 0 ∷ [])

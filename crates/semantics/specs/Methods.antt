@@ -60,10 +60,10 @@ pub record Fits (ts : List Task) (m : Method) : Type 0 where
   pub is-task : nth ts (m .task) ≡ Some task
   pub tasks-known : (a t : ℕ) → nth (m .steps) a ≡ Some t → (u : Task) × (nth ts t ≡ Some u)
   pub needs : (j f : ℕ) → Labelled (task .needs) j f
-    → (a : ℕ) × (k : ℕ) × (u : Task) × (m .needs-go j ≡ Some (a, k)) × (own-task-of ts m a ≡ Some u) × Labelled (u .needs) k f
+      → (a : ℕ) × (k : ℕ) × (u : Task) × (m .needs-go j ≡ Some (a, k)) × (own-task-of ts m a ≡ Some u) × Labelled (u .needs) k f
   pub adds : (i f : ℕ) → Labelled (task .adds) i f
-    → (a : ℕ) × (k : ℕ) × (u : Task) × (m .adds-go i ≡ Some (a, k)) × (own-task-of ts m a ≡ Some u) × Labelled (u .adds) k f
+      → (a : ℕ) × (k : ℕ) × (u : Task) × (m .adds-go i ≡ Some (a, k)) × (own-task-of ts m a ≡ Some u) × Labelled (u .adds) k f
   pub links : (l : Link) → Linked l (m .links)
-    → (f : ℕ) × (u : Task) × (v : Task) × (own-task-of ts m (l .producer) ≡ Some u) × (own-task-of ts m (l .consumer) ≡ Some v)
-    × Labelled (u .adds) (l .add) f × Labelled (v .needs) (l .need) f
+      → (f : ℕ) × (u : Task) × (v : Task) × (own-task-of ts m (l .producer) ≡ Some u) × (own-task-of ts m (l .consumer) ≡ Some v)
+      × Labelled (u .adds) (l .add) f × Labelled (v .needs) (l .need) f
   pub pairs : (a b : ℕ) → Listed a b (m .pairs) → (a < length (m .steps)) × (b < length (m .steps))

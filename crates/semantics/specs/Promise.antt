@@ -91,10 +91,10 @@ module _ (capacity : ℕ) where
   pub record Promises (told : History) : Type 0 where
     -- needs are met: a step that is taken is one of the book's steps, with all its needs among the book's facts just before
     pub needs-met : (line : List ℕ) (s : ℕ) → Tells line (Take s) → answered told line .code ≡ 0
-      → (t : Task) × (task-in-book (book told) s ≡ Some t) × ((f : ℕ) → In f (t .needs) → book told .facts f ≡ true)
+        → (t : Task) × (task-in-book (book told) s ≡ Some t) × ((f : ℕ) → In f (t .needs) → book told .facts f ≡ true)
     -- the row answers the book's facts just after
     pub facts-answered : (line : List ℕ) (s : ℕ) → Tells line (Take s) → answered told line .code ≡ 0
-      → answered told line .a ≡ as-sum (book (line ∷ told) .facts)
+        → answered told line .a ≡ as-sum (book (line ∷ told) .facts)
     -- each foremost step of an accepted plan can be taken
     pub foremost-can : Accepted told → (s : ℕ) → Foremost told s → CanBeTaken told s
     -- while a step of an accepted plan is untaken, some step is foremost, and so can be taken
@@ -103,10 +103,10 @@ module _ (capacity : ℕ) where
     pub as-in-the-book : Accepted told → AsInTheBook told
     -- J answers the count of the plan's steps
     pub count-answered : (line : List ℕ) → Tells line Judge → answered told line .code ≡ 0
-      → answered told line .a ≡ length (present-from 0 (book told .plan .steps))
+        → answered told line .a ≡ length (present-from 0 (book told .plan .steps))
     -- a threat comes true: some permitted order puts the named step between the named producer and consumer
     pub threat-comes-true : (line : List ℕ) → Tells line Judge → answered told line .code ≡ 16
-      → BetweenInSomeOrder told (answered told line .b) (answered told line .a) (answered told line .c)
+        → BetweenInSomeOrder told (answered told line .b) (answered told line .a) (answered told line .c)
 
 -- For every capacity from 2 to 64 and every list of lines, of whatever bytes and length, refused ones included.
 abbrev pub Promise-holds : Type 0

@@ -40,20 +40,20 @@ opening = record { phase = Tasks; tasks = first-tasks; methods = []; draft = bla
 -- a plan with one step, pair or link more
 abbrev pub plan-step : Plan → ℕ → Plan
 plan-step p t = record {
-    steps = p .steps ++ (Some t ∷ []);
-    links = p .links;
-    before = put (put (p .before) 0 (length (p .steps))) (length (p .steps)) 1
-  }
+  steps = p .steps ++ (Some t ∷ []);
+  links = p .links;
+  before = put (put (p .before) 0 (length (p .steps))) (length (p .steps)) 1;
+}
 
 abbrev pub plan-order : Plan → ℕ → ℕ → Plan
 plan-order p a b = record { steps = p .steps; links = p .links; before = put (p .before) a b }
 
 abbrev pub plan-link : List Task → Plan → Link → Plan
 plan-link ts p l = record {
-    steps = p .steps;
-    links = with-link (p .links) l;
-    before = cond (primitive-at ts (p .steps) (l .producer) && primitive-at ts (p .steps) (l .consumer)) (put (p .before) (l .producer) (l .consumer)) (p .before)
-  }
+  steps = p .steps;
+  links = with-link (p .links) l;
+  before = cond (primitive-at ts (p .steps) (l .producer) && primitive-at ts (p .steps) (l .consumer)) (put (p .before) (l .producer) (l .consumer)) (p .before);
+}
 
 abbrev pub plan-or : Plan → Option Plan → Plan
 plan-or p None = p

@@ -31,24 +31,24 @@ AndListed R ps x y = Holds R x y ⊎ Listed x y ps
 -- relation has a step before itself.
 pub record Puts-are-the-closure : Type 0 where
   pub closure : (R : Relation) (ps : List (ℕ × ℕ)) (S : Relation) → Strict R → try-all (Some R) ps ≡ Some S
-    → Strict S × ((x y : ℕ) → Holds S x y ↔ Chained (AndListed R ps) x y)
+      → Strict S × ((x y : ℕ) → Holds S x y ↔ Chained (AndListed R ps) x y)
   pub circle : (R : Relation) (ps : List (ℕ × ℕ)) → Strict R → (try-all (Some R) ps ≡ None) ↔ ((x : ℕ) × Chained (AndListed R ps) x x)
 
 -- In an executable plan, whatever way steps are taken by order alone, the next one finds all its needs among the facts.
 abbrev pub Needs-are-met : Type 0
 Needs-are-met = (ts : List Task) (p : Plan) → Sound ts p → Executable ts p → (done : List ℕ) → Taken p done
-  → (s : ℕ) (t : Task) → task-of ts p s ≡ Some t → CanTake p done s → (f : ℕ) → In f (t .needs) → facts-after ts p done f ≡ true
+    → (s : ℕ) (t : Task) → task-of ts p s ≡ Some t → CanTake p done s → (f : ℕ) → In f (t .needs) → facts-after ts p done f ≡ true
 
 -- While a step is untaken, some step can be taken.
 abbrev pub Some-step-is-next : Type 0
 Some-step-is-next = (ts : List Task) (p : Plan) → Sound ts p → (done : List ℕ)
-  → (x : ℕ) → In x (steps-of p) → (In x done → ⊥) → (s : ℕ) × CanTake p done s
+    → (x : ℕ) → In x (steps-of p) → (In x done → ⊥) → (s : ℕ) × CanTake p done s
 
 -- A threat comes true: some permitted order has the threat between the link's producer and its consumer.
 abbrev pub Threat-comes-true : Type 0
 Threat-comes-true = (ts : List Task) (p : Plan) → Sound ts p → Primitive-plan ts p
-  → (l : Link) (f : ℕ) → Linked l (p .links) → Protects ts p l f → (s : ℕ) → Threat ts p l f s
-  → (order : List ℕ) × Permitted (steps-of p) (Holds (p .before)) order × Earlier order (l .producer) s × Earlier order s (l .consumer)
+    → (l : Link) (f : ℕ) → Linked l (p .links) → Protects ts p l f → (s : ℕ) → Threat ts p l f s
+    → (order : List ℕ) × Permitted (steps-of p) (Holds (p .before)) order × Earlier order (l .producer) s × Earlier order s (l .consumer)
 
 -- What a decomposition of step s by a fitting method gives. The method's steps are numbered from n, the next step number.
 pub record Decomposes (ts : List Task) (p : Plan) (s : ℕ) (m : Method) (q : Plan) : Type 0 where
@@ -59,7 +59,7 @@ pub record Decomposes (ts : List Task) (p : Plan) (s : ℕ) (m : Method) (q : Pl
   pub joined : (l : Link) → Linked l (m .links) → Linked (renumbered (length (p .steps)) l) (q .links)
   -- no link is multiplied or made up: each is one that was passed down, or the method's
   pub no-other : (k : Link) → Linked k (q .links)
-    → ((l : Link) × Linked l (p .links) × (k ≡ passed-down (length (p .steps)) s m l)) ⊎ ((l : Link) × Linked l (m .links) × (k ≡ renumbered (length (p .steps)) l))
+      → ((l : Link) × Linked l (p .links) × (k ≡ passed-down (length (p .steps)) s m l)) ⊎ ((l : Link) × Linked l (m .links) × (k ≡ renumbered (length (p .steps)) l))
   -- no pair between steps that stay is lost
   pub kept : (x y : ℕ) → Holds (p .before) x y → (x ≡ s → ⊥) → (y ≡ s → ⊥) → Holds (q .before) x y
   -- what was before s is before each new step, and what was after s is after each
@@ -72,17 +72,17 @@ pub record Decomposes (ts : List Task) (p : Plan) (s : ℕ) (m : Method) (q : Pl
 -- at another step stays.
 pub record Arrives (n s : ℕ) (m : Method) : Type 0 where
   pub consumer : (l : Link) (a k : ℕ) → l .consumer ≡ s → m .needs-go (l .need) ≡ Some (a, k)
-    → (passed-down n s m l .consumer ≡ n + a) × (passed-down n s m l .need ≡ k)
+      → (passed-down n s m l .consumer ≡ n + a) × (passed-down n s m l .need ≡ k)
   pub producer : (l : Link) (a k : ℕ) → l .producer ≡ s → m .adds-go (l .add) ≡ Some (a, k)
-    → (passed-down n s m l .producer ≡ n + a) × (passed-down n s m l .add ≡ k)
+      → (passed-down n s m l .producer ≡ n + a) × (passed-down n s m l .add ≡ k)
   pub other-consumer : (l : Link) → (l .consumer ≡ s → ⊥) → (passed-down n s m l .consumer ≡ l .consumer) × (passed-down n s m l .need ≡ l .need)
   pub other-producer : (l : Link) → (l .producer ≡ s → ⊥) → (passed-down n s m l .producer ≡ l .producer) × (passed-down n s m l .add ≡ l .add)
 
 -- A decomposition by a fitting method gives such a plan, or is refused exactly where a step would be before itself.
 pub record Decomposition : Type 0 where
   pub gives : (ts : List Task) (p : Plan) (s : ℕ) (m : Method) (q : Plan) → Sound ts p → Fits ts m → nth (p .steps) s ≡ Some (Some (m .task))
-    → decompose-step ts p s m ≡ Some q → Decomposes ts p s m q
+      → decompose-step ts p s m ≡ Some q → Decomposes ts p s m q
   pub arrives : (n s : ℕ) (m : Method) → Arrives n s m
   pub refused : (ts : List Task) (p : Plan) (s : ℕ) (m : Method) → Sound ts p
-    → (decompose-step ts p s m ≡ None)
-    ↔ ((x : ℕ) × Chained (Inherits ts (Holds (p .before)) (length (p .steps)) s m (steps-after p s m) (links-after p s m)) x x)
+      → (decompose-step ts p s m ≡ None)
+      ↔ ((x : ℕ) × Chained (Inherits ts (Holds (p .before)) (length (p .steps)) s m (steps-after p s m) (links-after p s m)) x x)
