@@ -31,21 +31,21 @@ last-rows e =
     let all : List Row = rows 64 opening (lines (with-breaks (e .text))) in
     drop (length all - length (e .ends-with)) all
 
--- Weigh empty is task 2, weigh full task 3, and serve truck, a compound task, task 4.
+-- Weigh empty is task 2, weigh full is task 3, and weigh twice, a compound task, is task 4.
 abbrev pub declared : List ℕ
 declared = codes "P|P|C|"
 
 abbrev pub facts-told : List ℕ
 facts-told = codes "A,0,0|N,1,2|N,2,0|A,2,1|N,3,1|A,3,2|N,4,0|A,4,2|"
 
--- the method of serve truck, but for the entry of its add and its end
+-- the method of weigh twice, but for the entry of its add and its end
 abbrev pub method-told : List ℕ
 method-told = codes "E|M,4|S,2|S,3|L,0,0,1,0|U,0,0,0|"
 
 abbrev pub domain-told : List ℕ
 domain-told = declared ++ (facts-told ++ (method-told ++ codes "V,0,1,0|K|E|"))
 
--- the plan with one step of serve truck and its links, told and decomposed
+-- the plan with one step of weigh twice and its links, told and decomposed
 abbrev pub links-told : List ℕ
 links-told = codes "L,0,0,2,0|L,2,0,1,0|E|"
 
