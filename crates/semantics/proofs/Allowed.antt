@@ -1,10 +1,10 @@
 -- What must hold for a command to be accepted, and what the rows must be.
 -- the two ends of a link of a method name one fact
-use mathlib.Core.Bool.{true}
-use mathlib.Core.List.{List, _∷_}
+use mathlib.Core.Bool.{false, true}
+use mathlib.Core.List.{List, map, _∷_}
 use mathlib.Core.Logic.{_⊎_}
 use mathlib.Core.Path.{_≡_}
-use Prim.Native.Nat.{_<_, ℕ}
+use Prim.Native.Nat.{_<_, ℕ, _≤_}
 use lib.ListN.{length}
 use Rattle.std.specs.Finite.{nth}
 use Rattle.std.specs.declared.option.Option.the-variants.{Some}
@@ -15,13 +15,14 @@ use Rattle.semantics.specs.Decomposing.{decompose-step}
 use Rattle.semantics.specs.Facts.{as-sum, CanTake, facts-after}
 use Rattle.semantics.specs.Methods.{Method, own-task-of}
 use Rattle.semantics.specs.Orders.{Holds, In}
-use Rattle.semantics.specs.Plans.{Executable, Linked, Plan, Protects, Sound, steps-of, task-of, Threat}
+use Rattle.semantics.specs.Plans.{both-primitive, Executable, Linked, Plan, Protects, Sound, steps-of, task-of, Threat}
 use Rattle.semantics.specs.Rules.{producer, threatens, verdict}
 use Rattle.semantics.specs.States.{State}
 use Rattle.semantics.specs.Tasks.{Labelled, Task}
 use Rattle.semantics.specs.declared.link.Link.{Link}
 use Rattle.semantics.specs.declared.phase.Phase.{Phase}
 use Rattle.semantics.specs.declared.phase.Phase.the-variants.{Initial, MethodOpen, Methods, Refine, Running, Tasks}
+use Rattle.semantics.proofs.Decomposes.{gives}
 
 abbrev pub OwnEnds : List Task → Method → Link → Type 0
 OwnEnds ts m l = (f : ℕ) × (u : Task) × (v : Task) × (own-task-of ts m (l .producer) ≡ Some u) × (own-task-of ts m (l .consumer) ≡ Some v)
@@ -58,11 +59,12 @@ Allowed st (AppendNeed t f) = st .phase ≡ Tasks
 Allowed st (AppendAdd t f) = st .phase ≡ Tasks
 Allowed st (AppendDelete t f) = st .phase ≡ Tasks
 Allowed st EndPhase = (st .phase ≡ Tasks) ⊎ ((st .phase ≡ Methods) ⊎ (st .phase ≡ Initial))
-Allowed st (OpenMethod t) = (st .phase ≡ Methods) × ((u : Task) × (nth (st .tasks) t ≡ Some u))
-Allowed st (NewStep t) = ((u : Task) × (nth (st .tasks) t ≡ Some u)) × ((st .phase ≡ MethodOpen) ⊎ (st .phase ≡ Initial))
-Allowed st (PutOrder p q) = ((st .phase ≡ MethodOpen) × (p < length (st .draft .steps)) × (q < length (st .draft .steps)))
+Allowed st (OpenMethod t) = (st .phase ≡ Methods) × ((u : Task) × (nth (st .tasks) t ≡ Some u) × (u .primitive ≡ false))
+Allowed st (NewStep t) = ((u : Task) × (nth (st .tasks) t ≡ Some u)) × ((st .phase ≡ MethodOpen) ⊎ (st .phase ≡ Initial)) × (2 ≤ t)
+Allowed st (PutOrder p q) = ((st .phase ≡ MethodOpen) × (p < length (st .draft .steps)) × (q < length (st .draft .steps)) × (p ≡ q → ⊥) × (Holds (st .draft .before) q p → ⊥))
     ⊎ (PlanOpen (st .phase) × In p (steps-of (st .plan)) × In q (steps-of (st .plan)) × (p ≡ q → ⊥) × (Holds (st .plan .before) q p → ⊥))
-Allowed st (PutLink p i q j) = ((st .phase ≡ MethodOpen) × OwnEnds (st .tasks) (st .draft) (record { producer = p; add = i; consumer = q; need = j }))
+Allowed st (PutLink p i q j) = ((st .phase ≡ MethodOpen) × OwnEnds (st .tasks) (st .draft) (record { producer = p; add = i; consumer = q; need = j }) × (p ≡ q → ⊥)
+    × (both-primitive (st .tasks) (map Some (st .draft .steps)) (record { producer = p; add = i; consumer = q; need = j }) ≡ true → Holds (st .draft .before) q p → ⊥))
     ⊎ (PlanOpen (st .phase) × Room (st .tasks) (st .plan) (record { producer = p; add = i; consumer = q; need = j }))
 Allowed st (RouteNeed j s k) = (st .phase ≡ MethodOpen) × ((t : Task) × (nth (st .tasks) (st .draft .task) ≡ Some t) × NeedGoes (st .tasks) (st .draft) t j (s, k))
 Allowed st (RouteAdd i s k) = (st .phase ≡ MethodOpen) × ((t : Task) × (nth (st .tasks) (st .draft .task) ≡ Some t) × AddGoes (st .tasks) (st .draft) t i (s, k))

@@ -3,11 +3,11 @@ use mathlib.Core.Bool.{_&&_, Bool, false, not, true, _||_}
 use mathlib.Core.List.{[], List, map, _∷_}
 use mathlib.Core.Logic.{inl, inr, _⊎_, ⊎-elim}
 use mathlib.Core.Path.{ap, refl, subst, sym, _∙_, _≡_}
-use Prim.Native.Nat.{ℕ}
+use Prim.Native.Nat.{suc, zero, ℕ, _≤_}
 use native.Mathlib.Omega.{arith}
 use lib.Dec.{eqb, ltb}
 use lib.ListN.{length}
-use Rattle.std.proofs.shelf.Tests.{and-parts, both-ways, cases-bool, eq-eqb, eqb-false, ltb-true, ne-eqb, not-false, or-parts}
+use Rattle.std.proofs.shelf.Tests.{and-from, and-parts, both-ways, cases-bool, eq-eqb, eqb-false, ltb-true, ne-eqb, not-false, or-parts}
 use Rattle.std.specs.Finite.{nth}
 use Rattle.std.specs.declared.option.Option.{Option}
 use Rattle.std.specs.declared.option.Option.the-variants.{None, Some}
@@ -17,9 +17,9 @@ use Rattle.page.specs.declared.answer.Row.{Row}
 use Rattle.semantics.specs.Causes.{first-of, nameless}
 use Rattle.semantics.specs.Decomposing.{decompose-step, upfrom}
 use Rattle.semantics.specs.Facts.{among}
-use Rattle.semantics.specs.Orders.{In}
-use Rattle.semantics.specs.Plans.{at-task, Executable, Linked, Plan, Protects, steps-of, task-of, Threat}
-use Rattle.semantics.specs.Rules.{at-label, causes, circular, compound-step, differ, first-found, holds-fact, is-some, is-step, lowest-link, method-task, need-unlinked, needs-then-adds, number-told, open-one, order-now, other-task, outside, own-order, producer, returned, steps-now, task-now, threat, threatens, unentered, unlinked-at, untaken-before, verdict, with-ends}
+use Rattle.semantics.specs.Orders.{Holds, In}
+use Rattle.semantics.specs.Plans.{at-task, Executable, Linked, Plan, primitive-at, Protects, steps-of, task-of, Threat}
+use Rattle.semantics.specs.Rules.{at-label, causes, circular, compound-step, differ, first-found, holds-fact, is-some, is-step, lowest-link, method-task, need-unlinked, needs-then-adds, number-told, open-one, order-now, other-task, outside, producer, returned, steps-now, task-now, threat, threatens, unentered, unlinked-at, untaken-before, verdict, with-ends}
 use Rattle.semantics.specs.States.{State}
 use Rattle.semantics.specs.Tasks.{adds-of, deletes-of, is-primitive, Labelled, needs-of, Task}
 use Rattle.semantics.specs.declared.link.Link.{Link}
@@ -58,6 +58,14 @@ open-plan ph m p (inr e) = ap (λ (q : Phase). open-one q m p) e
 open-method : {X : Type 0} (ph : Phase) (m p : X) → ph ≡ MethodOpen → open-one ph m p ≡ m
 open-method ph m p e = ap (λ (q : Phase). open-one q m p) e
 
+above-one : (t : ℕ) → (t ≡ 0 → ⊥) → (t ≡ 1 → ⊥) → 2 ≤ t
+above-one zero a b = absurd (a refl)
+above-one (suc zero) a b = absurd (b refl)
+above-one (suc (suc t)) a b = omega arith
+
+not-primitive : (o : Option Task) (u : Task) → o ≡ Some u → is-primitive o ≡ false → u .primitive ≡ false
+not-primitive o u e h = ap is-primitive (sym e) ∙ h
+
 module _ (capacity : ℕ) (st : State) where
   ts : List Task
   ts = st .tasks
@@ -76,12 +84,16 @@ module _ (capacity : ℕ) (st : State) where
   by-steps os e x u h = ap (λ (ks : List (Option ℕ)). at-task (st .tasks) (nth ks x)) (sym e) ∙ h
 
   plan-order : PlanOpen (st .phase) → order-now st ≡ st .plan .before
-  plan-order o = open-plan (st .phase) (own-order (st .tasks) (st .draft)) (st .plan .before) o
+  plan-order o = open-plan (st .phase) (st .draft .before) (st .plan .before) o
+
+  own-order : st .phase ≡ MethodOpen → order-now st ≡ st .draft .before
+  own-order e = open-method (st .phase) (st .draft .before) (st .plan .before) e
 
   at-step : (t : ℕ) → Clear (causes capacity st (NewStep t)) → Allowed st (NewStep t)
   at-step t c = (
     known-task t (named 1 (ltb t (length (st .tasks)) ∷ []) (c .1 .0) .0),
     ⊎-elim (λ e. inl e) (λ z. ⊎-elim (λ e. inr e) (λ y. absurd y) z) (inside (st .phase) (MethodOpen ∷ Initial ∷ []) (c .0)),
+    (let z = or-parts (eqb t 0) (eqb t 1) (when-none (eqb t 0 || eqb t 1) (c .1 .1 .0)) in let a = eqb-false t 0 (z .0) in let b = eqb-false t 1 (z .1) in above-one t a b),
   )
 
   at-order : (p q : ℕ) → Clear (causes capacity st (PutOrder p q)) → Allowed st (PutOrder p q)
@@ -91,7 +103,8 @@ module _ (capacity : ℕ) (st : State) where
       let nq : is-step (steps-now st) q ≡ true = ns .1 .0 in
       let free = or-parts (eqb p q) (order-now st q p) (when-none (eqb p q || order-now st q p) (c .1 .1 .0)) in
       ⊎-elim
-      (λ e. let s = own-steps e in inl (e, own-below (st .draft .steps) p (ap (λ (os : List (Option ℕ)). is-step os p) (sym s) ∙ np), own-below (st .draft .steps) q (ap (λ (os : List (Option ℕ)). is-step os q) (sym s) ∙ nq)))
+      (λ e. let s = own-steps e in inl (e, own-below (st .draft .steps) p (ap (λ (os : List (Option ℕ)). is-step os p) (sym s) ∙ np), own-below (st .draft .steps) q (ap (λ (os : List (Option ℕ)). is-step os q) (sym s) ∙ nq),
+        eqb-false p q (free .0), λ h. both-ways (st .draft .before q p) (ap (λ (R : ℕ → ℕ → Bool). R q p) (sym (own-order e)) ∙ free .1) h))
       (λ o. let s = plan-steps o in inr (
         o,
         step-is-in (st .plan .steps) p (ap (λ (os : List (Option ℕ)). is-step os p) (sym s) ∙ np),
@@ -101,6 +114,17 @@ module _ (capacity : ℕ) (st : State) where
       ))
       (in-open (st .phase) (c .0))
 
+  -- a link between primitive steps of the open method does not run against its order
+  own-free : (p q : ℕ) → (is-primitive (task-now st p) && (is-primitive (task-now st q) && order-now st q p)) ≡ false → st .phase ≡ MethodOpen
+      → (primitive-at (st .tasks) (map Some (st .draft .steps)) p && primitive-at (st .tasks) (map Some (st .draft .steps)) q) ≡ true → Holds (st .draft .before) q p → ⊥
+  own-free p q free e both h =
+      let s = own-steps e in
+      let b = and-parts _ _ both in
+      let x : is-primitive (task-now st p) ≡ true = ap (λ (os : List (Option ℕ)). primitive-at (st .tasks) os p) s ∙ b .0 in
+      let y : is-primitive (task-now st q) ≡ true = ap (λ (os : List (Option ℕ)). primitive-at (st .tasks) os q) s ∙ b .1 in
+      let z : order-now st q p ≡ true = ap (λ (R : ℕ → ℕ → Bool). R q p) (own-order e) ∙ h in
+      both-ways _ free (and-from _ _ x (and-from _ _ y z))
+
   at-link : (p i q j : ℕ) → Clear (causes capacity st (PutLink p i q j)) → Allowed st (PutLink p i q j)
   at-link p i q j c =
       let free : (eqb p q || (is-primitive (task-now st p) && (is-primitive (task-now st q) && order-now st q p))) ≡ false = when-none _ (c .1 .1 .1 .1 .0) in
@@ -108,7 +132,9 @@ module _ (capacity : ℕ) (st : State) where
       let u = adds-some (task-now st p) i (f .0) (f .1) in
       let v = needs-some (task-now st q) j (f .0) (f .2) in
       ⊎-elim
-      (λ e. let s = own-steps e in inl (e, (f .0, u .0, v .0, by-steps _ s p (u .0) (u .1), by-steps _ s q (v .0) (v .1), u .2, v .2)))
+      (λ e. let s = own-steps e in inl (e, (f .0, u .0, v .0, by-steps _ s p (u .0) (u .1), by-steps _ s q (v .0) (v .1), u .2, v .2),
+        eqb-false p q (or-parts (eqb p q) _ free .0),
+        λ both h. own-free p q (or-parts (eqb p q) (is-primitive (task-now st p) && (is-primitive (task-now st q) && order-now st q p)) free .1) e both h))
       (λ o. let s = plan-steps o in let r = plan-order o in inr (
         o,
         record {
@@ -266,7 +292,9 @@ allowed capacity st law EndPhase c = at-end (st .phase) (c .0)
   where
     at-end : (ph : Phase) → outside ph (Tasks ∷ Methods ∷ Initial ∷ []) ≡ None → (ph ≡ Tasks) ⊎ ((ph ≡ Methods) ⊎ (ph ≡ Initial))
     at-end ph h = ⊎-elim inl (λ z. inr (⊎-elim inl (λ y. inr (⊎-elim (λ e. e) (λ x. absurd x) y)) z)) (inside ph (Tasks ∷ Methods ∷ Initial ∷ []) h)
-allowed capacity st law (OpenMethod t) c = (in-methods (st .phase) (c .0), known-task capacity st t (named 1 (ltb t (length (st .tasks)) ∷ []) (c .1 .0) .0))
+allowed capacity st law (OpenMethod t) c =
+    let u = known-task capacity st t (named 1 (ltb t (length (st .tasks)) ∷ []) (c .1 .0) .0) in
+    (in-methods (st .phase) (c .0), (u .0, u .1, not-primitive (nth (st .tasks) t) (u .0) (u .1) (when-none (is-primitive (nth (st .tasks) t)) (c .1 .1 .0))))
 allowed capacity st law (NewStep t) c = at-step capacity st t c
 allowed capacity st law (PutOrder p q) c = at-order capacity st p q c
 allowed capacity st law (PutLink p i q j) c = at-link capacity st p i q j c

@@ -1,21 +1,22 @@
 -- The pairs that a decomposition puts are those that the book lets in.
-use mathlib.Core.Bool.{_&&_, Bool, cond, false, true}
+use mathlib.Core.Bool.{_&&_, Bool, cond, false, true, true≢false}
 use mathlib.Core.List.{_++_, [], List, _∷_}
 use mathlib.Core.Logic.{inl, inr, _↔_, _⊎_, ⊎-elim}
 use mathlib.Core.Path.{ap, refl, subst, subst₂, sym, _∙_, _≡_}
-use Prim.Native.Nat.{_+_, suc, zero, ℕ}
+use Prim.Native.Nat.{_+_, _<_, suc, zero, ℕ}
 use native.Mathlib.Omega.{arith}
 use lib.ListN.{length}
 use Rattle.std.proofs.shelf.Tests.{and-parts}
 use Rattle.std.specs.Finite.{nth}
 use Rattle.std.specs.declared.option.Option.{Option}
 use Rattle.std.specs.declared.option.Option.the-variants.{None, Some}
+use Rattle.page.specs.Answers.{row}
 use Rattle.semantics.specs.Book.{BookPlan, decomposed}
 use Rattle.semantics.specs.Closures.{Chained, Listed, pair, Pairs, try-all}
-use Rattle.semantics.specs.Decomposing.{after-new, before-new, by-link, decompose-step, each-to, in-method, Inherits, kept, link-pairs, LinkPair, links-after, New, new-pairs, plan-with, Primitive, primitive-at, shifted, steps-after, to-each, turned, upfrom}
+use Rattle.semantics.specs.Decomposing.{after-new, before-new, by-link, decompose-step, each-to, in-method, Inherits, kept, link-pairs, LinkPair, links-after, New, new-pairs, pairs-among, pairs-of, plan-with, Primitive, row-pairs, shifted, steps-after, to-each, turned, upfrom}
 use Rattle.semantics.specs.Methods.{Method}
 use Rattle.semantics.specs.Orders.{dropped, Holds, In, Relation, Strict}
-use Rattle.semantics.specs.Plans.{at-task, Linked, Plan, Sound, steps-of}
+use Rattle.semantics.specs.Plans.{at-task, Linked, Plan, primitive-at, Sound, steps-of}
 use Rattle.semantics.specs.Tasks.{is-primitive, Task}
 use Rattle.semantics.specs.declared.link.Link.{Link}
 use Rattle.semantics.proofs.Closures.{chained-into, chained-same, Joined, try-all-chained, try-all-refused}
@@ -88,6 +89,34 @@ listed-link-pairs ts ss (k ∷ ks) l x y (inl e) h =
     let q′ : primitive-at ts ss (k .consumer) ≡ true = subst (λ (n : ℕ). primitive-at ts ss n ≡ true) ey q in
     rw (p′, q′) (inl (ex, ey))
 
+row-listed : (a : ℕ) (test : ℕ → Bool) (bs : List ℕ) (x y : ℕ) → Listed x y (row-pairs a test bs) ↔ ((x ≡ a) × In y bs × (test y ≡ true))
+row-listed a test [] x y = (λ i. absurd i, λ h. absurd (h .1))
+row-listed a test (b ∷ bs) x y = at (test b) refl (row-listed a test bs x y)
+  where
+    at : (c : Bool) → test b ≡ c → (Listed x y (row-pairs a test bs) ↔ ((x ≡ a) × In y bs × (test y ≡ true)))
+      → Listed x y (cond c ((a, b) ∷ row-pairs a test bs) (row-pairs a test bs)) ↔ ((x ≡ a) × ((y ≡ b) ⊎ In y bs) × (test y ≡ true))
+    at true e ih = (λ i. ⊎-elim (λ h. (h .0, inl (h .1), ap test (h .1) ∙ e)) (λ j. let h = ih .0 j in (h .0, inr (h .1), h .2)) i,
+                    λ h. ⊎-elim (λ q. inl (h .0, q)) (λ j. inr (ih .1 (h .0, j, h .2))) (h .1))
+    at false e ih = (λ i. let h = ih .0 i in (h .0, inr (h .1), h .2),
+                     λ h. ⊎-elim (λ q. let w : true ≡ false = sym (h .2) ∙ (ap test q ∙ e) in absurd (true≢false w)) (λ j. ih .1 (h .0, j, h .2)) (h .1))
+
+among-listed : (R : Relation) (xs bs : List ℕ) (x y : ℕ) → Listed x y (pairs-among R xs bs) ↔ (In x xs × In y bs × Holds R x y)
+among-listed R [] bs x y = (λ i. absurd i, λ h. absurd (h .0))
+among-listed R (a ∷ xs) bs x y =
+    let row = row-listed a (R a) bs x y in
+    let ih = among-listed R xs bs x y in
+    let both = listed-append x y (row-pairs a (R a) bs) (pairs-among R xs bs) in
+    (λ i. ⊎-elim (λ j. let h = row .0 j in (inl (h .0), h .1, ap (λ (z : ℕ). R z y) (h .0) ∙ h .2)) (λ j. let h = ih .0 j in (inr (h .0), h .1, h .2)) (both .0 i),
+     λ h. both .1 (⊎-elim (λ q. inl (row .1 (q, h .1, ap (λ (z : ℕ). R z y) (sym q) ∙ h .2))) (λ j. inr (ih .1 (j, h .1, h .2))) (h .0)))
+
+-- the pairs of a method's own order
+own-pairs : (m : Method) (x y : ℕ) → Listed x y (pairs-of m) ↔ ((x < length (m .steps)) × (y < length (m .steps)) × Holds (m .before) x y)
+own-pairs m x y =
+    let k = length (m .steps) in
+    let l = among-listed (m .before) (upfrom 0 k) (upfrom 0 k) x y in
+    (λ i. let h = l .0 i in let a = upfrom-in 0 k x .0 (h .0) in let b = upfrom-in 0 k y .0 (h .1) in (omega (arith, a .1), omega (arith, b .1), h .2),
+     λ h. l .1 (upfrom-in 0 k x .1 (omega arith, omega (arith, h .0)), upfrom-in 0 k y .1 (omega arith, omega (arith, h .1)), h .2))
+
 module _ (ts : List Task) (p : Plan) (sound : Sound ts p) (before : Pairs) (same : (x y : ℕ) → Holds (p .before) x y ↔ before x y) (s : ℕ) (m : Method) where
   abbrev pub as-book : BookPlan
   as-book = record { steps = p .steps; links = p .links; before = before }
@@ -121,7 +150,7 @@ module _ (ts : List Task) (p : Plan) (sound : Sound ts p) (before : Pairs) (same
   pb = turned (each-to (λ y. p .before s y) (steps-of p) N)
 
   pc : List (ℕ × ℕ)
-  pc = shifted (length (p .steps)) (m .pairs)
+  pc = shifted (length (p .steps)) (pairs-of m)
 
   pd : List (ℕ × ℕ)
   pd = link-pairs ts ss ls
@@ -138,8 +167,10 @@ module _ (ts : List Task) (p : Plan) (sound : Sound ts p) (before : Pairs) (same
       from-b h = let r = each-to-listed (λ z. p .before s z) y x (steps-of p) N .0 (turned-listed x y (each-to (λ z. p .before s z) (steps-of p) N) .0 h) in after-new (upfrom-in (length (p .steps)) (length (m .steps)) x .0 (r .2)) (same s y .0 (r .1))
 
       from-c : Listed x y pc → Inherits ts before (length (p .steps)) s m ss ls x y
-      from-c h = let r = shifted-listed (length (p .steps)) x y (m .pairs) h in subst₂ (λ (u v : ℕ). Inherits ts before (length (p .steps)) s m ss ls u v) (sym (r .3)) (sym (r .4)) (in-method (r .0) (r .1) (r .2))
-
+      from-c h =
+          let r = shifted-listed (length (p .steps)) x y (pairs-of m) h in
+          let k = own-pairs m (r .0) (r .1) .0 (r .2) in
+          subst₂ (λ (u v : ℕ). Inherits ts before (length (p .steps)) s m ss ls u v) (sym (r .3)) (sym (r .4)) (in-method (r .0) (r .1) (k .0) (k .1) (k .2))
       from-d : Listed x y pd → Inherits ts before (length (p .steps)) s m ss ls x y
       from-d h = let r = link-pairs-listed ts ss ls x y h in by-link (r .0) (r .1) (r .2)
 
@@ -153,10 +184,10 @@ module _ (ts : List Task) (p : Plan) (sound : Sound ts p) (before : Pairs) (same
       let k = same s y .1 h in
       inr (listed-append x y pa (pb ++ (pc ++ pd)) .1 (inr (listed-append x y pb (pc ++ pd) .1 (inl (turned-listed x y (each-to (λ z. p .before s z) (steps-of p) N) .1
       (each-to-listed (λ z. p .before s z) y x (steps-of p) N .1 (sound .own-steps s y k .1, k, upfrom-in (length (p .steps)) (length (m .steps)) x .1 n)))))))
-  in-pairs _ _ (in-method a b h) =
+  in-pairs _ _ (in-method a b ha hb h) =
       let x : ℕ = length (p .steps) + a in
       let y : ℕ = length (p .steps) + b in
-      inr (listed-append x y pa (pb ++ (pc ++ pd)) .1 (inr (listed-append x y pb (pc ++ pd) .1 (inr (listed-append x y pc pd .1 (inl (listed-shifted (length (p .steps)) a b (m .pairs) h)))))))
+      inr (listed-append x y pa (pb ++ (pc ++ pd)) .1 (inr (listed-append x y pb (pc ++ pd) .1 (inr (listed-append x y pc pd .1 (inl (listed-shifted (length (p .steps)) a b (pairs-of m) (own-pairs m a b .1 (ha, hb, h)))))))))
   in-pairs x y (by-link l i h) =
       inr (listed-append x y pa (pb ++ (pc ++ pd)) .1 (inr (listed-append x y pb (pc ++ pd) .1 (inr (listed-append x y pc pd .1 (inr (listed-link-pairs ts ss ls l x y i h)))))))
 

@@ -66,18 +66,18 @@ plan-x st s m e n hn q hq =
     ∙ (ap (decompose-with (st .tasks) (st .plan) s) hn ∙ ap (plan-or (st .plan)) hq)
 
 good-at-method-for : (st : State) (t : ℕ) → GoodState st → Allowed st (OpenMethod t) → GoodState (next st (OpenMethod t))
-good-at-method-for st t g a = good-draft (st .phase) (st .tasks) (st .methods) (st .draft) (blank t) (st .plan) (inl (a .0)) (draft-blank (st .tasks) t (a .1 .0) (a .1 .1)) g
+good-at-method-for st t g a = good-draft (st .phase) (st .tasks) (st .methods) (st .draft) (blank t) (st .plan) (inl (a .0)) (draft-blank (st .tasks) t (a .1 .0) (a .1 .1) (a .1 .2)) g
 
 good-at-step : (st : State) (t : ℕ) → GoodState st → Allowed st (NewStep t) → GoodState (next st (NewStep t))
 good-at-step st t g a = ⊎-elim
-    (λ e. rw e (good-draft MethodOpen (st .tasks) (st .methods) (st .draft) (step-of (st .draft) t) (st .plan) (inr refl) (draft-step (st .tasks) (st .draft) t (a .0 .0) (a .0 .1) (g .drafting e)) (rw e at g)))
+    (λ e. rw e (good-draft MethodOpen (st .tasks) (st .methods) (st .draft) (step-of (st .draft) t) (st .plan) (inr refl) (draft-step (st .tasks) (st .draft) t (a .0 .0) (a .0 .1) (a .2) (g .drafting e)) (rw e at g)))
     (λ e. let f = g .framed e in rw e (good-plan Initial (st .tasks) (st .methods) (st .draft) (st .plan) (plan-step (st .plan) t) (inl refl)
     (step-sound (st .tasks) (st .plan) t (a .0 .0) (a .0 .1) (g .sound) (f .0) (f .1) (f .2)) (λ q. framed-step (st .plan) t f) (rw e at g)))
     (a .1)
 
 good-at-order : (st : State) (p : ℕ) (q : ℕ) → GoodState st → Allowed st (PutOrder p q) → GoodState (next st (PutOrder p q))
 good-at-order st p q g a = ⊎-elim
-    (λ b. let e = b .0 in rw e (good-draft MethodOpen (st .tasks) (st .methods) (st .draft) (order-of (st .draft) p q) (st .plan) (inr refl) (draft-order (st .tasks) (st .draft) p q (b .1) (b .2) (g .drafting e)) (rw e at g)))
+    (λ b. let e = b .0 in rw e (good-draft MethodOpen (st .tasks) (st .methods) (st .draft) (order-of (st .draft) p q) (st .plan) (inr refl) (draft-order (st .tasks) (st .draft) p q (b .1) (b .2) (b .3) (b .4) (g .drafting e)) (rw e at g)))
     (λ b.
     let s = order-sound (st .tasks) (st .plan) (g .sound) (Holds (st .plan .before)) (λ x y. (λ k. k, λ k. k)) p q (b .1) (b .2) (b .3) (b .4) in
     let frame : (st .phase ≡ Initial) → In 0 (steps-of (st .plan)) × In 1 (steps-of (st .plan)) × Holds (put (st .plan .before) p q) 0 1 = λ e. let f = g .framed e in (f .0, f .1, put-old (st .plan .before) p q 0 1 (f .2)) in
@@ -86,7 +86,7 @@ good-at-order st p q g a = ⊎-elim
 
 good-at-link : (st : State) (p : ℕ) (i : ℕ) (q : ℕ) (j : ℕ) → GoodState st → Allowed st (PutLink p i q j) → GoodState (next st (PutLink p i q j))
 good-at-link st p i q j g a = ⊎-elim
-    (λ b. let e = b .0 in rw e (good-draft MethodOpen (st .tasks) (st .methods) (st .draft) (link-of (st .draft) (record { producer = p; add = i; consumer = q; need = j })) (st .plan) (inr refl) (draft-link (st .tasks) (st .draft) (record { producer = p; add = i; consumer = q; need = j }) (b .1) (g .drafting e)) (rw e at g)))
+    (λ b. let e = b .0 in rw e (good-draft MethodOpen (st .tasks) (st .methods) (st .draft) (link-of (st .tasks) (st .draft) (record { producer = p; add = i; consumer = q; need = j })) (st .plan) (inr refl) (draft-link (st .tasks) (st .draft) (record { producer = p; add = i; consumer = q; need = j }) (b .1) (b .2) (b .3) (g .drafting e)) (rw e at g)))
     (λ b.
     let l : Link = record { producer = p; add = i; consumer = q; need = j } in
     let s = link-sound (st .tasks) (st .plan) (g .sound) (Holds (st .plan .before)) (λ x y. (λ k. k, λ k. k)) l (b .1) in
@@ -225,6 +225,6 @@ alike-next st l b g a al = record {
   phase = ap (phase-after l) (al .phase);
   tasks = tasks-alike l st b (al .phase) (al .tasks);
   methods = methods-alike l st b (al .phase) (al .draft) (al .methods);
-  draft = draft-alike l st b (al .phase) (al .draft);
+  draft = draft-alike l st b (al .phase) (al .tasks) (al .draft);
   plan = plan-alike st l b g a al;
 }

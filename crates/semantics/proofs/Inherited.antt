@@ -200,7 +200,7 @@ module _ (ts : List Task) (p : Plan) (sound : Sound ts p) (s : ℕ) (m : Method)
   both-stay x y (kept h a b) = let o = sound .own-steps x y h in (old-stays x (o .0) a, old-stays y (o .1) b)
   both-stay x y (before-new h k) = (old-stays x (sound .own-steps x s h .0) (λ e. sound .never-itself s (subst (λ (z : ℕ). Holds (p .before) z s) e h)), new-stays-at y k)
   both-stay x y (after-new k h) = (new-stays-at x k, old-stays y (sound .own-steps s y h .1) (λ e. sound .never-itself s (subst (λ (z : ℕ). Holds (p .before) s z) e h)))
-  both-stay _ _ (in-method a b h) = let r = fits .pairs a b h in (new-stays a (r .0), new-stays b (r .1))
+  both-stay _ _ (in-method a b ha hb h) = (new-stays a ha, new-stays b hb)
   both-stay x y (by-link l i h) = (primitive-stays x (h .2), primitive-stays y (h .3))
 
   -- every step of the new plan has a known task

@@ -13,14 +13,15 @@ use Rattle.std.specs.declared.option.Option.the-variants.{None, Some}
 use Rattle.line.specs.declared.command.Command.{Command}
 use Rattle.semantics.specs.Book.{Book, enter}
 use Rattle.semantics.specs.Closures.{And, Chained, pair, Pairs}
-use Rattle.semantics.specs.Decomposing.{LinkPair, Primitive, primitive-at}
+use Rattle.semantics.specs.Decomposing.{LinkPair, Primitive}
 use Rattle.semantics.specs.Orders.{Holds, In, put, Relation, Strict}
-use Rattle.semantics.specs.Plans.{at-task, Plan, present-from, Protects, Sound, steps-of, task-of}
+use Rattle.semantics.specs.Plans.{at-task, Plan, present-from, primitive-at, Protects, Sound, steps-of, task-of}
 use Rattle.semantics.specs.States.{next, plan-link, plan-order, plan-step, State}
 use Rattle.semantics.specs.Tasks.{is-primitive, Task}
 use Rattle.semantics.specs.declared.link.Link.{Link}
 use Rattle.semantics.proofs.Allowed.{Room}
 use Rattle.semantics.proofs.Closures.{chained-into, chained-put, chained-same}
+use Rattle.semantics.proofs.Decomposes.{gives}
 use Rattle.semantics.proofs.Decomposing.{primitive-there}
 use Rattle.semantics.proofs.Links.{linked-with}
 use Rattle.semantics.proofs.Orders.{first, put-cases, put-new, put-old, put-strict}
@@ -33,8 +34,8 @@ tasks-alike l st b ph ts = grind arith
 pub methods-alike : (l : Command) (st : State) (b : Book) → st .phase ≡ b .phase → st .draft ≡ b .draft → st .methods ≡ b .methods → next st l .methods ≡ enter l b .methods
 methods-alike l st b ph d ms = grind arith
 
-pub draft-alike : (l : Command) (st : State) (b : Book) → st .phase ≡ b .phase → st .draft ≡ b .draft → next st l .draft ≡ enter l b .draft
-draft-alike l st b ph d = grind arith
+pub draft-alike : (l : Command) (st : State) (b : Book) → st .phase ≡ b .phase → st .tasks ≡ b .tasks → st .draft ≡ b .draft → next st l .draft ≡ enter l b .draft
+draft-alike l st b ph ts d = grind arith
 
 -- a transitive relation is its own closure
 pub closed : (R : Relation) (B : Pairs) → ((x y z : ℕ) → Holds R x y → Holds R y z → Holds R x z) → ((x y : ℕ) → Holds R x y ↔ B x y) → (x y : ℕ) → Holds R x y ↔ Chained B x y

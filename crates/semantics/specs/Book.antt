@@ -113,7 +113,7 @@ enter-order Running p q b = b
 abbrev pub enter-link : Phase → Link → Book → Book
 enter-link Tasks l b = b
 enter-link Methods l b = b
-enter-link MethodOpen l b = write-draft b (link-of (b .draft) l)
+enter-link MethodOpen l b = write-draft b (link-of (b .tasks) (b .draft) l)
 enter-link Initial l b = write-plan b (write-link (b .tasks) (b .plan) l)
 enter-link Refine l b = write-plan b (write-link (b .tasks) (b .plan) l)
 enter-link Running l b = b

@@ -1,5 +1,5 @@
 -- The plan that a decomposition gives: in set terms, and as it is computed.
-use mathlib.Core.Bool.{_&&_, Bool, cond, false, true}
+use mathlib.Core.Bool.{Bool, cond, false, true}
 use mathlib.Core.List.{_++_, [], List, map, _∷_}
 use mathlib.Core.Path.{_≡_}
 use Prim.Native.Nat.{_+_, _<_, suc, zero, ℕ, _≤_}
@@ -8,11 +8,11 @@ use lib.ListN.{length, set}
 use Rattle.std.specs.Finite.{nth}
 use Rattle.std.specs.declared.option.Option.{Option}
 use Rattle.std.specs.declared.option.Option.the-variants.{None, Some}
-use Rattle.semantics.specs.Closures.{Listed, Pairs, try-all}
+use Rattle.semantics.specs.Closures.{Pairs, try-all}
 use Rattle.semantics.specs.Methods.{Method}
-use Rattle.semantics.specs.Orders.{dropped, Relation}
-use Rattle.semantics.specs.Plans.{at-task, Linked, Plan, steps-of, with-links}
-use Rattle.semantics.specs.Tasks.{is-primitive, Task}
+use Rattle.semantics.specs.Orders.{dropped, Holds, Relation}
+use Rattle.semantics.specs.Plans.{at-task, both-primitive, Linked, Plan, steps-of, with-links}
+use Rattle.semantics.specs.Tasks.{Task}
 use Rattle.semantics.specs.declared.link.Link.{Link}
 
 -- step s, of a plan with these steps, has a primitive task
@@ -54,7 +54,7 @@ pub data Inherits (ts : List Task) (before : ℕ → ℕ → Type 0) (n s : ℕ)
   kept : {x y : ℕ} → before x y → (x ≡ s → ⊥) → (y ≡ s → ⊥) → Inherits ts before n s m ss ls x y
   before-new : {x y : ℕ} → before x s → New n (length (m .steps)) y → Inherits ts before n s m ss ls x y
   after-new : {x y : ℕ} → New n (length (m .steps)) x → before s y → Inherits ts before n s m ss ls x y
-  in-method : (a b : ℕ) → Listed a b (m .pairs) → Inherits ts before n s m ss ls (n + a) (n + b)
+  in-method : (a b : ℕ) → a < length (m .steps) → b < length (m .steps) → Holds (m .before) a b → Inherits ts before n s m ss ls (n + a) (n + b)
   by-link : {x y : ℕ} → (l : Link) → Linked l ls → LinkPair ts ss l x y → Inherits ts before n s m ss ls x y
 
 -- the k numbers from n
@@ -77,19 +77,30 @@ abbrev pub turned : List (ℕ × ℕ) → List (ℕ × ℕ)
 turned [] = []
 turned (ab ∷ abs) = (ab .1, ab .0) ∷ turned abs
 
+-- a paired with each of some numbers that passes the test
+abbrev pub row-pairs : ℕ → (ℕ → Bool) → List ℕ → List (ℕ × ℕ)
+row-pairs a test [] = []
+row-pairs a test (b ∷ bs) = cond (test b) ((a, b) ∷ row-pairs a test bs) (row-pairs a test bs)
+
+-- the pairs of a relation from some numbers to some others
+abbrev pub pairs-among : Relation → List ℕ → List ℕ → List (ℕ × ℕ)
+pairs-among R [] bs = []
+pairs-among R (a ∷ xs) bs = row-pairs a (R a) bs ++ pairs-among R xs bs
+
+-- the pairs of a method's own order
+abbrev pub pairs-of : Method → List (ℕ × ℕ)
+pairs-of m = pairs-among (m .before) (upfrom 0 (length (m .steps))) (upfrom 0 (length (m .steps)))
+
 -- the pairs of a method whose steps are numbered from n
 abbrev pub shifted : ℕ → List (ℕ × ℕ) → List (ℕ × ℕ)
 shifted n [] = []
 shifted n (ab ∷ abs) = (n + ab .0, n + ab .1) ∷ shifted n abs
 
-abbrev pub primitive-at : List Task → List (Option ℕ) → ℕ → Bool
-primitive-at ts ss s = is-primitive (at-task ts (nth ss s))
-
 -- the producer and the consumer of each link between primitive steps
 abbrev pub link-pairs : List Task → List (Option ℕ) → List Link → List (ℕ × ℕ)
 link-pairs ts ss [] = []
 link-pairs ts ss (l ∷ ls) =
-    cond (primitive-at ts ss (l .producer) && primitive-at ts ss (l .consumer)) ((l .producer, l .consumer) ∷ link-pairs ts ss ls) (link-pairs ts ss ls)
+    cond (both-primitive ts ss l) ((l .producer, l .consumer) ∷ link-pairs ts ss ls) (link-pairs ts ss ls)
 
 -- s leaves, and the method's steps get the next numbers, in their own order
 abbrev pub steps-after : Plan → ℕ → Method → List (Option ℕ)
@@ -104,7 +115,7 @@ abbrev pub new-pairs : List Task → Plan → ℕ → Method → List (ℕ × �
 new-pairs ts p s m =
     each-to (λ x. p .before x s) (steps-of p) (upfrom (length (p .steps)) (length (m .steps)))
     ++ (turned (each-to (λ y. p .before s y) (steps-of p) (upfrom (length (p .steps)) (length (m .steps))))
-    ++ (shifted (length (p .steps)) (m .pairs)
+    ++ (shifted (length (p .steps)) (pairs-of m)
     ++ link-pairs ts (steps-after p s m) (links-after p s m)))
 
 abbrev pub plan-with : Plan → ℕ → Method → Option Relation → Option Plan

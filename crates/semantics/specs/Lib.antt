@@ -13,5 +13,5 @@ pub mod States
 pub mod Rules
 pub mod Promise
 pub mod Theorems
-pub mod Listing
 pub mod Laws
+pub mod Listing

@@ -8,8 +8,8 @@ use lib.Dec.{eqb}
 use Rattle.std.specs.Finite.{nth}
 use Rattle.std.specs.declared.option.Option.{Option}
 use Rattle.std.specs.declared.option.Option.the-variants.{None, Some}
-use Rattle.semantics.specs.Orders.{Holds, In, Relation, Transitive}
-use Rattle.semantics.specs.Tasks.{Labelled, Task}
+use Rattle.semantics.specs.Orders.{Holds, In, put, Relation, Transitive}
+use Rattle.semantics.specs.Tasks.{is-primitive, Labelled, Task}
 use Rattle.semantics.specs.declared.link.Link.{Link}
 
 -- A plan: at each step number given so far, the number of the step's task, or None once the step has left; the links; and
@@ -58,6 +58,17 @@ with-link ls l = cond (has-link l ls) ls (ls ++ (l ∷ []))
 abbrev pub with-links : List Link → List Link → List Link
 with-links ls [] = ls
 with-links ls (k ∷ ks) = with-links (with-link ls k) ks
+
+-- whether step s, of these steps, has a primitive task, and whether both ends of a link have
+abbrev pub primitive-at : List Task → List (Option ℕ) → ℕ → Bool
+primitive-at ts ss s = is-primitive (at-task ts (nth ss s))
+
+abbrev pub both-primitive : List Task → List (Option ℕ) → Link → Bool
+both-primitive ts ss l = primitive-at ts ss (l .producer) && primitive-at ts ss (l .consumer)
+
+-- the order after a link joins: between primitive steps it puts its producer before its consumer
+abbrev pub linked-order : List Task → List (Option ℕ) → Relation → Link → Relation
+linked-order ts ss R l = cond (both-primitive ts ss l) (put R (l .producer) (l .consumer)) R
 
 -- A link fits a plan and protects the fact f: its ends are present steps, its labels name f at both, and between primitive
 -- steps the producer is before the consumer.

@@ -1,6 +1,6 @@
 -- The rules: for a capacity, a state and a line, the row that answers it and the state after.
 use mathlib.Core.Bool.{_&&_, Bool, cond, false, not, true, _||_}
-use mathlib.Core.List.{_++_, [], List, map, _∷_}
+use mathlib.Core.List.{[], List, map, _∷_}
 use Prim.Native.Nat.{_+_, suc, zero, ℕ}
 use lib.Dec.{eqb, leb, ltb}
 use lib.ListN.{length}
@@ -14,12 +14,13 @@ use Rattle.line.specs.declared.command.Command.{Command}
 use Rattle.line.specs.declared.command.Command.the-variants.{AppendAdd, AppendDelete, AppendNeed, CloseMethod, Decompose, EndPhase, Judge, NewCompound, NewPrimitive, NewStep, OpenMethod, PutLink, PutOrder, RouteAdd, RouteNeed, Take}
 use Rattle.line.specs.declared.command.Refusal.{Refusal}
 use Rattle.page.specs.Answers.{row, unread}
+use Rattle.page.specs.Lines.{lines}
 use Rattle.page.specs.declared.answer.Row.{Row}
 use Rattle.semantics.specs.Causes.{Cause, first-of, nameless, when}
-use Rattle.semantics.specs.Decomposing.{decompose-step, link-pairs, links-after, upfrom}
+use Rattle.semantics.specs.Decomposing.{decompose-step, links-after, upfrom}
 use Rattle.semantics.specs.Facts.{among, as-sum, facts-after}
 use Rattle.semantics.specs.Methods.{Method}
-use Rattle.semantics.specs.Orders.{put, Relation}
+use Rattle.semantics.specs.Orders.{Relation}
 use Rattle.semantics.specs.Phases.{where-open}
 use Rattle.semantics.specs.Plans.{at-task, has-link, Plan, steps-of, task-of}
 use Rattle.semantics.specs.States.{next, State}
@@ -94,16 +95,8 @@ steps-now st = open-one (st .phase) (map Some (st .draft .steps)) (st .plan .ste
 abbrev pub links-now : State → List Link
 links-now st = open-one (st .phase) (st .draft .links) (st .plan .links)
 
-abbrev pub put-all : Relation → List (ℕ × ℕ) → Relation
-put-all R [] = R
-put-all R (ab ∷ abs) = put-all (put R (ab .0) (ab .1)) abs
-
--- a method's own order: the pairs told, and those of its links between primitive steps
-abbrev pub own-order : List Task → Method → Relation
-own-order ts m = put-all (λ x y. false) (m .pairs ++ link-pairs ts (map Some (m .steps)) (m .links))
-
 abbrev pub order-now : State → Relation
-order-now st = open-one (st .phase) (own-order (st .tasks) (st .draft)) (st .plan .before)
+order-now st = open-one (st .phase) (st .draft .before) (st .plan .before)
 
 abbrev pub task-now : State → ℕ → Option Task
 task-now st s = at-task (st .tasks) (nth (steps-now st) s)

@@ -9,11 +9,11 @@ use Rattle.std.specs.declared.option.Option.{Option}
 use Rattle.std.specs.declared.option.Option.the-variants.{None, Some}
 use Rattle.line.specs.declared.command.Command.{Command}
 use Rattle.line.specs.declared.command.Command.the-variants.{AppendAdd, AppendDelete, AppendNeed, CloseMethod, Decompose, EndPhase, Judge, NewCompound, NewPrimitive, NewStep, OpenMethod, PutLink, PutOrder, RouteAdd, RouteNeed, Take}
-use Rattle.semantics.specs.Decomposing.{decompose-step, primitive-at}
+use Rattle.semantics.specs.Decomposing.{decompose-step}
 use Rattle.semantics.specs.Methods.{add-entry, blank, link-of, Method, need-entry, order-of, step-of}
 use Rattle.semantics.specs.Orders.{put}
 use Rattle.semantics.specs.Phases.{is-initial, is-refine, phase-after, where-open}
-use Rattle.semantics.specs.Plans.{Plan, with-link}
+use Rattle.semantics.specs.Plans.{linked-order, Plan, with-link}
 use Rattle.semantics.specs.TaskLines.{tasks-with-add, tasks-with-delete, tasks-with-need, tasks-with-task}
 use Rattle.semantics.specs.Tasks.{first-tasks, Task}
 use Rattle.semantics.specs.declared.link.Link.{Link}
@@ -52,7 +52,7 @@ abbrev pub plan-link : List Task → Plan → Link → Plan
 plan-link ts p l = record {
   steps = p .steps;
   links = with-link (p .links) l;
-  before = cond (primitive-at ts (p .steps) (l .producer) && primitive-at ts (p .steps) (l .consumer)) (put (p .before) (l .producer) (l .consumer)) (p .before);
+  before = linked-order ts (p .steps) (p .before) l;
 }
 
 abbrev pub plan-or : Plan → Option Plan → Plan
@@ -90,7 +90,7 @@ abbrev pub with-order : Phase → State → ℕ → ℕ → State
 with-order ph st p q = where-open ph st (with-draft st (order-of (st .draft) p q)) (with-plan st (plan-order (st .plan) p q))
 
 abbrev pub with-link-of : Phase → State → Link → State
-with-link-of ph st l = where-open ph st (with-draft st (link-of (st .draft) l)) (with-plan st (plan-link (st .tasks) (st .plan) l))
+with-link-of ph st l = where-open ph st (with-draft st (link-of (st .tasks) (st .draft) l)) (with-plan st (plan-link (st .tasks) (st .plan) l))
 
 -- what an accepted command does
 abbrev pub done : State → Command → State
