@@ -1,5 +1,5 @@
 -- What must hold for a command to be accepted, and what the rows must be.
--- the two ends of a link of a method name one fact
+-- the task of a step of what is open, and the task of the open method
 use mathlib.Core.Bool.{false, true}
 use mathlib.Core.List.{List, map, _∷_}
 use mathlib.Core.Logic.{_⊎_}
@@ -7,6 +7,7 @@ use mathlib.Core.Path.{_≡_}
 use Prim.Native.Nat.{_<_, ℕ, _≤_}
 use lib.ListN.{length}
 use Rattle.std.specs.Finite.{nth}
+use Rattle.std.specs.declared.option.Option.{Option}
 use Rattle.std.specs.declared.option.Option.the-variants.{Some}
 use Rattle.line.specs.declared.command.Command.{Command}
 use Rattle.line.specs.declared.command.Command.the-variants.{AppendAdd, AppendDelete, AppendNeed, CloseMethod, Decompose, EndPhase, Judge, NewCompound, NewPrimitive, NewStep, OpenMethod, PutLink, PutOrder, RouteAdd, RouteNeed, Take}
@@ -14,15 +15,25 @@ use Rattle.page.specs.declared.answer.Row.{Row}
 use Rattle.semantics.specs.Decomposing.{decompose-step}
 use Rattle.semantics.specs.Facts.{as-sum, CanTake, facts-after}
 use Rattle.semantics.specs.Methods.{Method, own-task-of}
+use Rattle.semantics.specs.OpenLines.{task-at}
 use Rattle.semantics.specs.Orders.{Holds, In}
+use Rattle.semantics.specs.PlanLines.{producer, threatens}
 use Rattle.semantics.specs.Plans.{both-primitive, Executable, Linked, Plan, Protects, Sound, steps-of, task-of, Threat}
-use Rattle.semantics.specs.Rules.{producer, threatens, verdict}
+use Rattle.semantics.specs.Rules.{steps-now, verdict}
 use Rattle.semantics.specs.States.{State}
 use Rattle.semantics.specs.Tasks.{Labelled, Task}
 use Rattle.semantics.specs.declared.link.Link.{Link}
 use Rattle.semantics.specs.declared.phase.Phase.{Phase}
 use Rattle.semantics.specs.declared.phase.Phase.the-variants.{Initial, MethodOpen, Methods, Refine, Running, Tasks}
 use Rattle.semantics.proofs.Decomposes.{gives}
+
+abbrev pub task-now : State → ℕ → Option Task
+task-now st s = task-at (st .tasks) (steps-now st) s
+
+abbrev pub method-task : State → Option Task
+method-task st = nth (st .tasks) (st .draft .task)
+
+-- the two ends of a link of a method name one fact
 
 abbrev pub OwnEnds : List Task → Method → Link → Type 0
 OwnEnds ts m l = (f : ℕ) × (u : Task) × (v : Task) × (own-task-of ts m (l .producer) ≡ Some u) × (own-task-of ts m (l .consumer) ≡ Some v)

@@ -19,9 +19,10 @@ use Rattle.semantics.specs.Closures.{try-all}
 use Rattle.semantics.specs.Decomposing.{decompose-step, links-after, new-pairs, plan-with, steps-after}
 use Rattle.semantics.specs.Methods.{Method}
 use Rattle.semantics.specs.Orders.{dropped, Relation}
+use Rattle.semantics.specs.PlanLines.{too-many}
 use Rattle.semantics.specs.Plans.{Plan}
 use Rattle.semantics.specs.Promise.{History, state}
-use Rattle.semantics.specs.Rules.{causes, row-for, state-for, too-many, verdict}
+use Rattle.semantics.specs.Rules.{causes, row-for, state-for, verdict}
 use Rattle.semantics.specs.States.{next, State}
 use Rattle.semantics.specs.Tasks.{Task}
 use Rattle.semantics.specs.declared.phase.Phase.the-variants.{Initial, MethodOpen}

@@ -14,18 +14,21 @@ use Rattle.std.specs.declared.option.Option.the-variants.{None, Some}
 use Rattle.line.specs.declared.command.Command.{Command}
 use Rattle.line.specs.declared.command.Command.the-variants.{AppendAdd, AppendDelete, AppendNeed, CloseMethod, Decompose, EndPhase, Judge, NewCompound, NewPrimitive, NewStep, OpenMethod, PutLink, PutOrder, RouteAdd, RouteNeed, Take}
 use Rattle.page.specs.declared.answer.Row.{Row}
-use Rattle.semantics.specs.Causes.{first-of, nameless}
+use Rattle.semantics.specs.Causes.{first-found, first-of, is-some, nameless, returned}
 use Rattle.semantics.specs.Decomposing.{decompose-step, upfrom}
 use Rattle.semantics.specs.Facts.{among}
+use Rattle.semantics.specs.Methods.{own-task-of}
+use Rattle.semantics.specs.OpenLines.{differ, is-step, needs-then-adds, unentered}
 use Rattle.semantics.specs.Orders.{Holds, In}
+use Rattle.semantics.specs.PlanLines.{at-label, circular, compound-step, holds-fact, lowest-link, need-unlinked, other-task, producer, threat, threatens, unlinked-at, untaken-before, with-ends}
 use Rattle.semantics.specs.Plans.{at-task, Executable, Linked, Plan, primitive-at, Protects, steps-of, task-of, Threat}
-use Rattle.semantics.specs.Rules.{at-label, causes, circular, compound-step, differ, first-found, holds-fact, is-some, is-step, lowest-link, method-task, need-unlinked, needs-then-adds, number-told, open-one, order-now, other-task, outside, producer, returned, steps-now, task-now, threat, threatens, unentered, unlinked-at, untaken-before, verdict, with-ends}
+use Rattle.semantics.specs.Rules.{causes, number-told, open-one, order-now, outside, steps-now, verdict}
 use Rattle.semantics.specs.States.{State}
 use Rattle.semantics.specs.Tasks.{adds-of, deletes-of, is-primitive, Labelled, needs-of, Task}
 use Rattle.semantics.specs.declared.link.Link.{Link}
 use Rattle.semantics.specs.declared.phase.Phase.{Phase}
 use Rattle.semantics.specs.declared.phase.Phase.the-variants.{Initial, MethodOpen, Methods, Refine, Running, Tasks}
-use Rattle.semantics.proofs.Allowed.{Allowed, Careful, Lawful, PlanOpen}
+use Rattle.semantics.proofs.Allowed.{Allowed, Careful, Lawful, method-task, PlanOpen, task-now}
 use Rattle.semantics.proofs.Decomposes.{gives}
 use Rattle.semantics.proofs.Decomposing.{upfrom-in}
 use Rattle.semantics.proofs.Inherited.{nth-below, nth-there}
@@ -103,8 +106,13 @@ module _ (capacity : ℕ) (st : State) where
       let nq : is-step (steps-now st) q ≡ true = ns .1 .0 in
       let free = or-parts (eqb p q) (order-now st q p) (when-none (eqb p q || order-now st q p) (c .1 .1 .0)) in
       ⊎-elim
-      (λ e. let s = own-steps e in inl (e, own-below (st .draft .steps) p (ap (λ (os : List (Option ℕ)). is-step os p) (sym s) ∙ np), own-below (st .draft .steps) q (ap (λ (os : List (Option ℕ)). is-step os q) (sym s) ∙ nq),
-        eqb-false p q (free .0), λ h. both-ways (st .draft .before q p) (ap (λ (R : ℕ → ℕ → Bool). R q p) (sym (own-order e)) ∙ free .1) h))
+      (λ e. let s = own-steps e in inl (
+        e,
+        own-below (st .draft .steps) p (ap (λ (os : List (Option ℕ)). is-step os p) (sym s) ∙ np),
+        own-below (st .draft .steps) q (ap (λ (os : List (Option ℕ)). is-step os q) (sym s) ∙ nq),
+        eqb-false p q (free .0),
+        λ h. both-ways (st .draft .before q p) (ap (λ (R : ℕ → ℕ → Bool). R q p) (sym (own-order e)) ∙ free .1) h,
+      ))
       (λ o. let s = plan-steps o in inr (
         o,
         step-is-in (st .plan .steps) p (ap (λ (os : List (Option ℕ)). is-step os p) (sym s) ∙ np),
@@ -132,9 +140,12 @@ module _ (capacity : ℕ) (st : State) where
       let u = adds-some (task-now st p) i (f .0) (f .1) in
       let v = needs-some (task-now st q) j (f .0) (f .2) in
       ⊎-elim
-      (λ e. let s = own-steps e in inl (e, (f .0, u .0, v .0, by-steps _ s p (u .0) (u .1), by-steps _ s q (v .0) (v .1), u .2, v .2),
+      (λ e. let s = own-steps e in inl (
+        e,
+        (f .0, u .0, v .0, by-steps _ s p (u .0) (u .1), by-steps _ s q (v .0) (v .1), u .2, v .2),
         eqb-false p q (or-parts (eqb p q) _ free .0),
-        λ both h. own-free p q (or-parts (eqb p q) (is-primitive (task-now st p) && (is-primitive (task-now st q) && order-now st q p)) free .1) e both h))
+        λ both h. own-free p q (or-parts (eqb p q) (is-primitive (task-now st p) && (is-primitive (task-now st q) && order-now st q p)) free .1) e both h,
+      ))
       (λ o. let s = plan-steps o in let r = plan-order o in inr (
         o,
         record {
@@ -158,18 +169,18 @@ module _ (capacity : ℕ) (st : State) where
   at-need-goes : (j s k : ℕ) → Clear (causes capacity st (RouteNeed j s k)) → Allowed st (RouteNeed j s k)
   at-need-goes j s k c =
       let e = in-method (st .phase) (c .0) in
-      let f = same-fact (needs-of (method-task st)) (needs-of (task-now st s)) j k (when-none (differ (nth (needs-of (method-task st)) j) (nth (needs-of (task-now st s)) k)) (c .1 .1 .1 .0)) in
+      let f = same-fact (needs-of (method-task st)) (needs-of (own-task-of (st .tasks) (st .draft) s)) j k (when-none (differ (nth (needs-of (method-task st)) j) (nth (needs-of (own-task-of (st .tasks) (st .draft) s)) k)) (c .1 .1 .1 .0)) in
       let t = needs-some (method-task st) j (f .0) (f .1) in
-      let u = needs-some (task-now st s) k (f .0) (f .2) in
-      (e, (t .0, t .1, (f .0, u .0, by-steps _ (own-steps e) s (u .0) (u .1), u .2, t .2)))
+      let u = needs-some (own-task-of (st .tasks) (st .draft) s) k (f .0) (f .2) in
+      (e, (t .0, t .1, (f .0, u .0, u .1, u .2, t .2)))
 
   at-add-goes : (i s k : ℕ) → Clear (causes capacity st (RouteAdd i s k)) → Allowed st (RouteAdd i s k)
   at-add-goes i s k c =
       let e = in-method (st .phase) (c .0) in
-      let f = same-fact (adds-of (method-task st)) (adds-of (task-now st s)) i k (when-none (differ (nth (adds-of (method-task st)) i) (nth (adds-of (task-now st s)) k)) (c .1 .1 .1 .0)) in
+      let f = same-fact (adds-of (method-task st)) (adds-of (own-task-of (st .tasks) (st .draft) s)) i k (when-none (differ (nth (adds-of (method-task st)) i) (nth (adds-of (own-task-of (st .tasks) (st .draft) s)) k)) (c .1 .1 .1 .0)) in
       let t = adds-some (method-task st) i (f .0) (f .1) in
-      let u = adds-some (task-now st s) k (f .0) (f .2) in
-      (e, (t .0, t .1, (f .0, u .0, by-steps _ (own-steps e) s (u .0) (u .1), u .2, t .2)))
+      let u = adds-some (own-task-of (st .tasks) (st .draft) s) k (f .0) (f .2) in
+      (e, (t .0, t .1, (f .0, u .0, u .1, u .2, t .2)))
 
   entered : (fs : List ℕ) (go : ℕ → Option (ℕ × ℕ)) → unentered fs go ≡ None → (j f : ℕ) → Labelled fs j f → (e : ℕ × ℕ) × (go j ≡ Some e)
   entered fs go h j f l =
@@ -337,7 +348,7 @@ takes capacity st law s a =
     let run : outside (st .phase) (Running ∷ []) ≡ None = ap (λ (ph : Phase). outside ph (Running ∷ [])) (a .0) in
     let here : nameless 1 (is-step (st .plan .steps) s ∷ []) ≡ None = ap (λ (b : Bool). nameless 1 (b ∷ [])) (in-is-step (st .plan .steps) s (a .1 .present)) in
     let fresh : among s (st .taken) ≡ false = ⊎-elim (λ h. absurd (a .1 .untaken (among-in s (st .taken) h))) (λ h. h) (cases-bool (among s (st .taken))) in
-    let none : untaken-before st s ≡ None = none-returned _ (none-such (λ x. st .plan .before x s && not (among x (st .taken))) (steps-of (st .plan)) (λ x i.
+    let none : untaken-before (st .plan) (st .taken) s ≡ None = none-returned _ (none-such (λ x. st .plan .before x s && not (among x (st .taken))) (steps-of (st .plan)) (λ x i.
     let b = a .1 .behind x in let m = in-among x (st .taken) in grind arith)) in
     ap (λ (w : Row). w .code) (all-clear (causes capacity st (Take s)) _ (run, (here, (none-when _ fresh, (none, tt)))))
 

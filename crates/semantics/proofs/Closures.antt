@@ -10,8 +10,8 @@ use Rattle.std.proofs.shelf.Tests.{eqb-true, or-cases}
 use Rattle.std.proofs.shelf.Ways.{tells}
 use Rattle.std.specs.declared.option.Option.the-variants.{None, Some}
 use Rattle.semantics.specs.Closures.{And, chain, Chained, Listed, pair, Pairs, try-all, try-put}
+use Rattle.semantics.specs.OpenLines.{there}
 use Rattle.semantics.specs.Orders.{Holds, put, Relation, Strict}
-use Rattle.semantics.specs.Rules.{there}
 use Rattle.semantics.proofs.Orders.{put-cases, put-new, put-old, put-smallest, put-strict}
 
 pub chained-into : (P : Pairs) (Q : Pairs) → ((x y : ℕ) → P x y → Q x y) → ((x y z : ℕ) → Q x y → Q y z → Q x z) → {x y : ℕ} → Chained P x y → Q x y

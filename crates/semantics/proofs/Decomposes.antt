@@ -15,8 +15,8 @@ use Rattle.semantics.specs.Closures.{Chained, pair}
 use Rattle.semantics.specs.Decomposing.{after-new, before-new, decompose-step, Inherits, kept, links-after, moved, passed-down, renumbered, steps-after}
 use Rattle.semantics.specs.Methods.{Fits, Method}
 use Rattle.semantics.specs.Orders.{Holds}
+use Rattle.semantics.specs.PlanLines.{producer}
 use Rattle.semantics.specs.Plans.{Linked, Plan, Sound, with-link, with-links}
-use Rattle.semantics.specs.Rules.{producer}
 use Rattle.semantics.specs.Tasks.{Task}
 use Rattle.semantics.specs.Theorems.{Arrives, Decomposes, Decomposition}
 use Rattle.semantics.specs.declared.link.Link.{Link}

@@ -94,28 +94,34 @@ row-listed a test [] x y = (λ i. absurd i, λ h. absurd (h .1))
 row-listed a test (b ∷ bs) x y = at (test b) refl (row-listed a test bs x y)
   where
     at : (c : Bool) → test b ≡ c → (Listed x y (row-pairs a test bs) ↔ ((x ≡ a) × In y bs × (test y ≡ true)))
-      → Listed x y (cond c ((a, b) ∷ row-pairs a test bs) (row-pairs a test bs)) ↔ ((x ≡ a) × ((y ≡ b) ⊎ In y bs) × (test y ≡ true))
-    at true e ih = (λ i. ⊎-elim (λ h. (h .0, inl (h .1), ap test (h .1) ∙ e)) (λ j. let h = ih .0 j in (h .0, inr (h .1), h .2)) i,
-                    λ h. ⊎-elim (λ q. inl (h .0, q)) (λ j. inr (ih .1 (h .0, j, h .2))) (h .1))
-    at false e ih = (λ i. let h = ih .0 i in (h .0, inr (h .1), h .2),
-                     λ h. ⊎-elim (λ q. let w : true ≡ false = sym (h .2) ∙ (ap test q ∙ e) in absurd (true≢false w)) (λ j. ih .1 (h .0, j, h .2)) (h .1))
+        → Listed x y (cond c ((a, b) ∷ row-pairs a test bs) (row-pairs a test bs)) ↔ ((x ≡ a) × ((y ≡ b) ⊎ In y bs) × (test y ≡ true))
+    at true e ih = (
+      λ i. ⊎-elim (λ h. (h .0, inl (h .1), ap test (h .1) ∙ e)) (λ j. let h = ih .0 j in (h .0, inr (h .1), h .2)) i,
+      λ h. ⊎-elim (λ q. inl (h .0, q)) (λ j. inr (ih .1 (h .0, j, h .2))) (h .1),
+    )
+    at false e ih = (
+      λ i. let h = ih .0 i in (h .0, inr (h .1), h .2),
+      λ h. ⊎-elim (λ q. let w : true ≡ false = sym (h .2) ∙ (ap test q ∙ e) in absurd (true≢false w)) (λ j. ih .1 (h .0, j, h .2)) (h .1),
+    )
 
 among-listed : (R : Relation) (xs bs : List ℕ) (x y : ℕ) → Listed x y (pairs-among R xs bs) ↔ (In x xs × In y bs × Holds R x y)
 among-listed R [] bs x y = (λ i. absurd i, λ h. absurd (h .0))
 among-listed R (a ∷ xs) bs x y =
     let row = row-listed a (R a) bs x y in
     let ih = among-listed R xs bs x y in
-    let both = listed-append x y (row-pairs a (R a) bs) (pairs-among R xs bs) in
-    (λ i. ⊎-elim (λ j. let h = row .0 j in (inl (h .0), h .1, ap (λ (z : ℕ). R z y) (h .0) ∙ h .2)) (λ j. let h = ih .0 j in (inr (h .0), h .1, h .2)) (both .0 i),
-     λ h. both .1 (⊎-elim (λ q. inl (row .1 (q, h .1, ap (λ (z : ℕ). R z y) (sym q) ∙ h .2))) (λ j. inr (ih .1 (j, h .1, h .2))) (h .0)))
+    let both = listed-append x y (row-pairs a (R a) bs) (pairs-among R xs bs) in (
+      λ i. ⊎-elim (λ j. let h = row .0 j in (inl (h .0), h .1, ap (λ (z : ℕ). R z y) (h .0) ∙ h .2)) (λ j. let h = ih .0 j in (inr (h .0), h .1, h .2)) (both .0 i),
+      λ h. both .1 (⊎-elim (λ q. inl (row .1 (q, h .1, ap (λ (z : ℕ). R z y) (sym q) ∙ h .2))) (λ j. inr (ih .1 (j, h .1, h .2))) (h .0)),
+    )
 
 -- the pairs of a method's own order
 own-pairs : (m : Method) (x y : ℕ) → Listed x y (pairs-of m) ↔ ((x < length (m .steps)) × (y < length (m .steps)) × Holds (m .before) x y)
 own-pairs m x y =
     let k = length (m .steps) in
-    let l = among-listed (m .before) (upfrom 0 k) (upfrom 0 k) x y in
-    (λ i. let h = l .0 i in let a = upfrom-in 0 k x .0 (h .0) in let b = upfrom-in 0 k y .0 (h .1) in (omega (arith, a .1), omega (arith, b .1), h .2),
-     λ h. l .1 (upfrom-in 0 k x .1 (omega arith, omega (arith, h .0)), upfrom-in 0 k y .1 (omega arith, omega (arith, h .1)), h .2))
+    let l = among-listed (m .before) (upfrom 0 k) (upfrom 0 k) x y in (
+      λ i. let h = l .0 i in let a = upfrom-in 0 k x .0 (h .0) in let b = upfrom-in 0 k y .0 (h .1) in (omega (arith, a .1), omega (arith, b .1), h .2),
+      λ h. l .1 (upfrom-in 0 k x .1 (omega arith, omega (arith, h .0)), upfrom-in 0 k y .1 (omega arith, omega (arith, h .1)), h .2),
+    )
 
 module _ (ts : List Task) (p : Plan) (sound : Sound ts p) (before : Pairs) (same : (x y : ℕ) → Holds (p .before) x y ↔ before x y) (s : ℕ) (m : Method) where
   abbrev pub as-book : BookPlan
@@ -171,6 +177,7 @@ module _ (ts : List Task) (p : Plan) (sound : Sound ts p) (before : Pairs) (same
           let r = shifted-listed (length (p .steps)) x y (pairs-of m) h in
           let k = own-pairs m (r .0) (r .1) .0 (r .2) in
           subst₂ (λ (u v : ℕ). Inherits ts before (length (p .steps)) s m ss ls u v) (sym (r .3)) (sym (r .4)) (in-method (r .0) (r .1) (k .0) (k .1) (k .2))
+
       from-d : Listed x y pd → Inherits ts before (length (p .steps)) s m ss ls x y
       from-d h = let r = link-pairs-listed ts ss ls x y h in by-link (r .0) (r .1) (r .2)
 

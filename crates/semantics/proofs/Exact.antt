@@ -13,12 +13,14 @@ use Rattle.std.specs.declared.option.Option.{Option}
 use Rattle.std.specs.declared.option.Option.the-variants.{None, Some}
 use Rattle.line.specs.declared.command.Command.the-variants.{Judge}
 use Rattle.page.specs.declared.answer.Row.{Row}
+use Rattle.semantics.specs.Causes.{also, first-found, is-some}
 use Rattle.semantics.specs.Decomposing.{upfrom}
 use Rattle.semantics.specs.Laws.{Judged-exactly}
 use Rattle.semantics.specs.Orders.{In}
+use Rattle.semantics.specs.PlanLines.{at-label, compound-step, lower-of, lowest-link, lowest-with, need-unlinked, producer, threat, threatens, unlinked-at, with-ends}
 use Rattle.semantics.specs.Plans.{Executable, Linked, Plan, Sound, steps-of, task-of}
 use Rattle.semantics.specs.Promise.{state}
-use Rattle.semantics.specs.Rules.{also, at-label, causes, compound-step, first-found, is-some, lower-of, lowest-link, lowest-with, need-unlinked, number-told, outside, producer, threat, threatens, unlinked-at, with-ends}
+use Rattle.semantics.specs.Rules.{causes, number-told, outside}
 use Rattle.semantics.specs.States.{State}
 use Rattle.semantics.specs.Tasks.{is-primitive, needs-of, Task}
 use Rattle.semantics.specs.declared.link.Link.{Link}

@@ -159,7 +159,7 @@ module _ (ts : List Task) (m : Method) (l : Link) (ends : OwnEnds ts m l) (apart
         apart = new-apart;
         ordered = λ k i h. ⊎-elim (λ j. p .ordered k j h)
             (λ q. subst (λ (z : Link). Holds (put (m .before) (l .producer) (l .consumer)) (z .producer) (z .consumer)) (sym q)
-              (put-new (m .before) (l .producer) (l .consumer) (l .producer) (l .consumer) (inl refl) (inl refl)))
+            (put-new (m .before) (l .producer) (l .consumer) (l .producer) (l .consumer) (inl refl) (inl refl)))
             (linked-with k l (m .links) i);
         strict = p .strict;
         own-steps = p .own-steps;

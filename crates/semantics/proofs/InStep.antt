@@ -15,21 +15,22 @@ use Rattle.line.specs.declared.command.Command.the-variants.{AppendAdd, AppendD
 use Rattle.semantics.specs.Book.{Book, BookPlan, decompose-by, decomposed, enter, fed, write-link, write-order, write-step}
 use Rattle.semantics.specs.Decomposing.{decompose-step}
 use Rattle.semantics.specs.Methods.{add-entry, blank, link-of, Method, need-entry, order-of, step-of}
+use Rattle.semantics.specs.OpenLines.{there}
 use Rattle.semantics.specs.Orders.{Holds, In, put}
 use Rattle.semantics.specs.Phases.{is-refine, phase-after}
+use Rattle.semantics.specs.PlanLines.{producer}
 use Rattle.semantics.specs.Plans.{Plan, Sound, steps-of}
-use Rattle.semantics.specs.Rules.{producer, there}
 use Rattle.semantics.specs.States.{decompose-with, next, plan-link, plan-or, plan-order, plan-step, State, with-plan}
 use Rattle.semantics.specs.Tasks.{bare, changed, Task, with-add, with-delete, with-need}
 use Rattle.semantics.specs.declared.link.Link.{Link}
 use Rattle.semantics.specs.declared.phase.Phase.{Phase}
 use Rattle.semantics.specs.declared.phase.Phase.the-variants.{Initial, MethodOpen, Refine, Running, Tasks}
+use Rattle.semantics.proofs.Alike.{draft-alike, link-alike, link-keeps, link-sound, methods-alike, more-in, order-alike, order-sound, step-alike, step-sound, tasks-alike}
 use Rattle.semantics.proofs.Allowed.{Allowed}
 use Rattle.semantics.proofs.Decomposing.{order-as-book}
 use Rattle.semantics.proofs.Good.{draft-add, draft-blank, draft-link, draft-need, draft-order, draft-step, draft-whole, Good, good-close, good-draft, good-end, good-judge, good-plan, good-tasks, GoodState}
 use Rattle.semantics.proofs.Inherited.{decomposed-sound}
 use Rattle.semantics.proofs.Orders.{put-old}
-use Rattle.semantics.proofs.PlanLines.{draft-alike, link-alike, link-keeps, link-sound, methods-alike, more-in, order-alike, order-sound, step-alike, step-sound, tasks-alike}
 
 length-one-more : (ts : List Task) (t : Task) → length ts ≤ length (ts ++ (t ∷ []))
 length-one-more [] t = omega arith

@@ -7,7 +7,7 @@ pub mod Decomposing
 pub mod Inherited
 pub mod Allowed
 pub mod Good
-pub mod PlanLines
+pub mod Alike
 pub mod InStep
 pub mod Searches
 pub mod Careful

@@ -24,9 +24,10 @@ use Rattle.semantics.specs.Laws.{Limits, Limits-hold, Short-lists, Small-metho
 use Rattle.semantics.specs.Methods.{Method}
 use Rattle.semantics.specs.Orders.{dropped, Relation}
 use Rattle.semantics.specs.Phases.{phase-after}
+use Rattle.semantics.specs.PlanLines.{producer, too-many}
 use Rattle.semantics.specs.Plans.{has-link, Plan, with-link}
 use Rattle.semantics.specs.Promise.{state}
-use Rattle.semantics.specs.Rules.{causes, links-limit, links-now, open-one, producer, row-for, state-for, too-many, verdict}
+use Rattle.semantics.specs.Rules.{causes, links-limit, links-now, open-one, row-for, state-for, verdict}
 use Rattle.semantics.specs.States.{next, opening, State}
 use Rattle.semantics.specs.Tasks.{adds-of, bare, changed, deletes-of, needs-of, Task, with-add, with-delete, with-need}
 use Rattle.semantics.specs.declared.link.Link.{Link}

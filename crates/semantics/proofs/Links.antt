@@ -5,8 +5,8 @@ use mathlib.Core.Logic.{inl, inr, _⊎_, ⊎-elim}
 use mathlib.Core.Path.{refl, subst, sym, _≡_}
 use Prim.Native.Nat.{_+_}
 use native.Mathlib.Omega.{arith}
+use Rattle.semantics.specs.PlanLines.{producer}
 use Rattle.semantics.specs.Plans.{has-link, Linked, same-link, with-link, with-links}
-use Rattle.semantics.specs.Rules.{producer}
 use Rattle.semantics.specs.declared.link.Link.{Link}
 
 pub same-link-is : (k l : Link) → same-link k l ≡ true → k ≡ l

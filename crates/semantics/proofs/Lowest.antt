@@ -12,13 +12,15 @@ use Rattle.std.specs.declared.option.Option.{Option}
 use Rattle.std.specs.declared.option.Option.the-variants.{None, Some}
 use Rattle.line.specs.declared.command.Command.the-variants.{Judge, Take}
 use Rattle.page.specs.declared.answer.Row.{Row}
-use Rattle.semantics.specs.Causes.{first-of, nameless, when}
+use Rattle.semantics.specs.Causes.{also, first-found, first-of, first-such, is-some, nameless, returned, when}
 use Rattle.semantics.specs.Decomposing.{upfrom}
 use Rattle.semantics.specs.Facts.{among}
 use Rattle.semantics.specs.Laws.{Lowest-named}
+use Rattle.semantics.specs.OpenLines.{is-step}
 use Rattle.semantics.specs.Orders.{Holds, In}
+use Rattle.semantics.specs.PlanLines.{at-label, compound-step, lower, lower-of, lowest-link, lowest-with, need-unlinked, producer, threat, threatens, unlinked-at, untaken-before}
 use Rattle.semantics.specs.Plans.{Linked, present-from, Protects, steps-of, Supplied, task-of, Threat}
-use Rattle.semantics.specs.Rules.{also, at-label, compound-step, first-found, first-such, is-some, is-step, lower, lower-of, lowest-link, lowest-with, need-unlinked, outside, producer, returned, threat, threatens, unlinked-at, untaken-before, verdict}
+use Rattle.semantics.specs.Rules.{outside, verdict}
 use Rattle.semantics.specs.States.{State}
 use Rattle.semantics.specs.Tasks.{is-primitive, Labelled, needs-of, Task}
 use Rattle.semantics.specs.declared.link.Link.{Link}
@@ -142,7 +144,7 @@ module _ (capacity : ℕ) (st : State) where
       → Holds (st .plan .before) (verdict capacity st (Take s) .a) s × (In (verdict capacity st (Take s) .a) (st .taken) → ⊥)
       × ((x : ℕ) → In x (steps-of (st .plan)) → x < verdict capacity st (Take s) .a → Holds (st .plan .before) x s → In x (st .taken))
   at-untaken s h =
-      let r = thirteen (outside (st .phase) (Running ∷ [])) (nameless 1 (is-step (st .plan .steps) s ∷ [])) (when (among s (st .taken))) (untaken-before st s) _ h in
+      let r = thirteen (outside (st .phase) (Running ∷ [])) (nameless 1 (is-step (st .plan .steps) s ∷ [])) (when (among s (st .taken))) (untaken-before (st .plan) (st .taken) s) _ h in
       let a : ℕ = r .0 .0 in
       let test : ℕ → Bool = λ x. st .plan .before x s && not (among x (st .taken)) in
       let m = such-lowest test (steps-of (st .plan)) a (numbers-ascend (st .plan .steps) 0) (returned-some _ (r .0) (r .1)) in

@@ -7,8 +7,8 @@ use Prim.Native.Nat.{ℕ}
 use native.Mathlib.Omega.{arith}
 use Rattle.std.proofs.shelf.Tests.{cases-bool}
 use Rattle.semantics.specs.Facts.{after}
+use Rattle.semantics.specs.OpenLines.{there}
 use Rattle.semantics.specs.Orders.{Earlier, Holds, In, Once, Permitted, put, Relation, Smallest, Strict}
-use Rattle.semantics.specs.Rules.{there}
 
 -- what a pair of the relation after a put is
 pub put-cases : (R : Relation) (a b x y : ℕ) → Holds (put R a b) x y

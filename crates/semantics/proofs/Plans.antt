@@ -10,9 +10,10 @@ use Rattle.std.specs.Finite.{nth}
 use Rattle.std.specs.declared.option.Option.{Option}
 use Rattle.std.specs.declared.option.Option.the-variants.{None, Some}
 use Rattle.semantics.specs.Facts.{after-step, among, CanTake, facts-after, Taken}
+use Rattle.semantics.specs.OpenLines.{is-step}
 use Rattle.semantics.specs.Orders.{Holds, In, Once, Strict}
+use Rattle.semantics.specs.PlanLines.{threat}
 use Rattle.semantics.specs.Plans.{at-task, Executable, Linked, Plan, present-from, Protects, Sound, steps-of, task-of, Threat}
-use Rattle.semantics.specs.Rules.{is-step, threat}
 use Rattle.semantics.specs.States.{done}
 use Rattle.semantics.specs.Tasks.{Labelled, Task}
 use Rattle.semantics.specs.Theorems.{Needs-are-met, Some-step-is-next, Threat-comes-true}

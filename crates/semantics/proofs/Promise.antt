@@ -25,11 +25,11 @@ use Rattle.semantics.specs.States.{next, State}
 use Rattle.semantics.specs.Tasks.{Task}
 use Rattle.semantics.specs.declared.link.Link.{Link}
 use Rattle.semantics.specs.declared.phase.Phase.the-variants.{Running}
+use Rattle.semantics.proofs.Alike.{numbers-below}
 use Rattle.semantics.proofs.Capacity.{few-steps}
 use Rattle.semantics.proofs.Careful.{careful}
 use Rattle.semantics.proofs.Histories.{always, At, in-step, InStep, lawful}
 use Rattle.semantics.proofs.Orders.{permitted, permitted-less}
-use Rattle.semantics.proofs.PlanLines.{numbers-below}
 use Rattle.semantics.proofs.Plans.{in-or-not, needs-are-met, some-step-is-next, threat-comes-true}
 
 -- an answer to a line that tells a command

@@ -12,11 +12,13 @@ use Rattle.std.specs.Finite.{nth}
 use Rattle.std.specs.declared.option.Option.{Option}
 use Rattle.std.specs.declared.option.Option.the-variants.{None, Some}
 use Rattle.page.specs.declared.answer.Row.{Row}
-use Rattle.semantics.specs.Causes.{Cause, first-of, nameless, or-else, when}
+use Rattle.semantics.specs.Causes.{also, Cause, first-found, first-of, first-such, is-some, nameless, or-else, when}
 use Rattle.semantics.specs.Methods.{Method}
+use Rattle.semantics.specs.OpenLines.{differ, is-step, there}
 use Rattle.semantics.specs.Orders.{In}
+use Rattle.semantics.specs.PlanLines.{lower, lower-of, lowest-link, lowest-with, other-task, producer}
 use Rattle.semantics.specs.Plans.{Linked, present-from}
-use Rattle.semantics.specs.Rules.{also, differ, first-found, first-such, is-some, is-step, lower, lower-of, lowest-link, lowest-with, one-of, other-task, outside, producer, rank, there}
+use Rattle.semantics.specs.Rules.{one-of, outside, rank}
 use Rattle.semantics.specs.Tasks.{adds-of, Labelled, needs-of, Task}
 use Rattle.semantics.specs.declared.link.Link.{Link}
 use Rattle.semantics.specs.declared.phase.Phase.{Phase}

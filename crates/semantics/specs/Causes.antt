@@ -1,9 +1,9 @@
 -- Why a line is turned down: its causes are tried in rising number, and the first that applies answers.
-use mathlib.Core.Bool.{Bool, true, false}
-use mathlib.Core.List.{List, [], _∷_}
-use Prim.Native.Nat.{ℕ, suc}
+use mathlib.Core.Bool.{Bool, cond, false, true}
+use mathlib.Core.List.{[], List, _∷_}
+use Prim.Native.Nat.{suc, ℕ}
 use Rattle.std.specs.declared.option.Option.{Option}
-use Rattle.std.specs.declared.option.Option.the-variants.{Some, None}
+use Rattle.std.specs.declared.option.Option.the-variants.{None, Some}
 use Rattle.page.specs.Answers.{as-row}
 use Rattle.page.specs.declared.answer.Row.{Row}
 
@@ -30,3 +30,25 @@ or-else n (Some v) rest = as-row n (v .0) (v .1) (v .2)
 abbrev pub first-of : List Cause → ℕ → Row
 first-of [] number = as-row 0 number 0 0
 first-of (r ∷ rs) number = or-else (r .0) (r .1) (first-of rs number)
+
+-- the first number of a list that passes a test
+abbrev pub first-such : (ℕ → Bool) → List ℕ → Option ℕ
+first-such test [] = None
+first-such test (x ∷ xs) = cond (test x) (Some x) (first-such test xs)
+
+abbrev pub also : {X : Type 0} → ℕ → Option X → Option (ℕ × X) → Option (ℕ × X)
+also x None rest = rest
+also x (Some y) rest = Some (x, y)
+
+-- the first number of a list for which something is found, and that
+abbrev pub first-found : {X : Type 0} → (ℕ → Option X) → List ℕ → Option (ℕ × X)
+first-found find [] = None
+first-found find (x ∷ xs) = also x (find x) (first-found find xs)
+
+abbrev pub returned : Option ℕ → Option (ℕ × ℕ × ℕ)
+returned None = None
+returned (Some x) = Some (x, 0, 0)
+
+abbrev pub is-some : {X : Type 0} → Option X → Bool
+is-some None = false
+is-some (Some x) = true

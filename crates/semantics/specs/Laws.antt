@@ -13,9 +13,10 @@ use Rattle.page.specs.declared.answer.Row.{Row}
 use Rattle.semantics.specs.Causes.{Cause}
 use Rattle.semantics.specs.Methods.{Fits, Method}
 use Rattle.semantics.specs.Orders.{Holds, In}
+use Rattle.semantics.specs.PlanLines.{threat}
 use Rattle.semantics.specs.Plans.{Executable, Linked, Protects, Sound, steps-of, Supplied, task-of, Threat}
 use Rattle.semantics.specs.Promise.{History, state}
-use Rattle.semantics.specs.Rules.{causes, number-told, open-one, threat, verdict}
+use Rattle.semantics.specs.Rules.{causes, number-told, open-one, verdict}
 use Rattle.semantics.specs.States.{State}
 use Rattle.semantics.specs.Tasks.{Labelled, Task}
 use Rattle.semantics.specs.declared.link.Link.{Link}

@@ -10,6 +10,8 @@ pub mod Decomposing
 pub mod Phases
 pub mod Book
 pub mod States
+pub mod OpenLines
+pub mod PlanLines
 pub mod Rules
 pub mod Promise
 pub mod Theorems

@@ -38,10 +38,13 @@ order-of m a b = record { task = m .task; steps = m .steps; links = m .links; be
 -- a method with one link more, which between primitive steps puts its producer before its consumer
 abbrev pub link-of : List Task → Method → Link → Method
 link-of ts m l = record {
-    task = m .task; steps = m .steps; links = with-link (m .links) l;
-    before = linked-order ts (map Some (m .steps)) (m .before) l;
-    needs-go = m .needs-go; adds-go = m .adds-go
-  }
+  task = m .task;
+  steps = m .steps;
+  links = with-link (m .links) l;
+  before = linked-order ts (map Some (m .steps)) (m .before) l;
+  needs-go = m .needs-go;
+  adds-go = m .adds-go;
+}
 
 -- the entries with one more, at k
 abbrev pub entered : (ℕ → Option (ℕ × ℕ)) → ℕ → ℕ × ℕ → ℕ → Option (ℕ × ℕ)
@@ -69,12 +72,12 @@ pub record Fits (ts : List Task) (m : Method) : Type 0 where
   pub tasks-known : (a t : ℕ) → nth (m .steps) a ≡ Some t → (u : Task) × (nth ts t ≡ Some u)
   pub plain-steps : (a t : ℕ) → nth (m .steps) a ≡ Some t → 2 ≤ t
   pub needs : (j f : ℕ) → Labelled (task .needs) j f
-    → (a : ℕ) × (k : ℕ) × (u : Task) × (m .needs-go j ≡ Some (a, k)) × (own-task-of ts m a ≡ Some u) × Labelled (u .needs) k f
+      → (a : ℕ) × (k : ℕ) × (u : Task) × (m .needs-go j ≡ Some (a, k)) × (own-task-of ts m a ≡ Some u) × Labelled (u .needs) k f
   pub adds : (i f : ℕ) → Labelled (task .adds) i f
-    → (a : ℕ) × (k : ℕ) × (u : Task) × (m .adds-go i ≡ Some (a, k)) × (own-task-of ts m a ≡ Some u) × Labelled (u .adds) k f
+      → (a : ℕ) × (k : ℕ) × (u : Task) × (m .adds-go i ≡ Some (a, k)) × (own-task-of ts m a ≡ Some u) × Labelled (u .adds) k f
   pub links : (l : Link) → Linked l (m .links)
-    → (f : ℕ) × (u : Task) × (v : Task) × (own-task-of ts m (l .producer) ≡ Some u) × (own-task-of ts m (l .consumer) ≡ Some v)
-    × Labelled (u .adds) (l .add) f × Labelled (v .needs) (l .need) f
+      → (f : ℕ) × (u : Task) × (v : Task) × (own-task-of ts m (l .producer) ≡ Some u) × (own-task-of ts m (l .consumer) ≡ Some v)
+      × Labelled (u .adds) (l .add) f × Labelled (v .needs) (l .need) f
   pub apart : (l : Link) → Linked l (m .links) → l .producer ≡ l .consumer → ⊥
   pub ordered : (l : Link) → Linked l (m .links) → both-primitive ts (map Some (m .steps)) l ≡ true → Holds (m .before) (l .producer) (l .consumer)
   pub strict : Strict (m .before)

@@ -12,8 +12,8 @@ use Rattle.semantics.specs.Decomposing.{after-new, before-new, decompose-step,
 use Rattle.semantics.specs.Facts.{CanTake, facts-after, Taken}
 use Rattle.semantics.specs.Methods.{Fits, Method}
 use Rattle.semantics.specs.Orders.{Earlier, Holds, In, Permitted, put, Relation, Smallest, Strict, Transitive}
+use Rattle.semantics.specs.PlanLines.{producer}
 use Rattle.semantics.specs.Plans.{Executable, Linked, Plan, Primitive-plan, Protects, Sound, steps-of, task-of, Threat}
-use Rattle.semantics.specs.Rules.{producer}
 use Rattle.semantics.specs.States.{done}
 use Rattle.semantics.specs.Tasks.{Task}
 use Rattle.semantics.specs.declared.link.Link.{Link}
