@@ -23,7 +23,7 @@ impl<T: Copy, const N: usize> Fixed<T, N> {
         ensures value { λ r. ⌜ r ≡ length (items (now (self .entry))) ⌝ }
         ensures bound { λ r. ⌜ r ≤ N ⌝ }
     {
-        self.count as usize
+        usize::from(self.count)
     }
 
     /// A copy of what stands at place `i`, or `None` from the end on.

@@ -1,4 +1,3 @@
-use mathlib.Core.Path.{sym}
 use native.Mathlib.Omega.{arith}
 use Rattle.std.proofs.shelf.Tests.{false≢true}
 use Rattle.fixed.specs.Items.{items}
@@ -9,16 +8,12 @@ pub returns-then-i-self : need.returns-then-i-self
 unfolding items
 returns-then-i-self g c =
     let self = c .args .self .now in
-    record {
-      item = sym (front-at (self .slots) (self .count) (c .args .i) (c .index-self-i .result) (c .if-i-self .taken) (omega (arith, self .whole, self .within)));
-      bound = λ _. omega (arith, self .within, c .if-i-self .taken);
-    }
+    let there = front-at (self .slots) (self .count) (c .args .i) (c .index-self-i .result) (omega arith) (omega (arith, self .whole, self .within)) in
+    record { item = cc; bound = λ _. omega (arith, self .within) }
 
 pub returns-else-i-self : need.returns-else-i-self
 unfolding items
 returns-else-i-self g c =
     let self = c .args .self .now in
-    record {
-      item = sym (front-past (self .slots) (self .count) (c .args .i) (c .if-i-self .left) (omega (arith, self .whole, self .within)));
-      bound = λ h. absurd (false≢true h);
-    }
+    let past = front-past (self .slots) (self .count) (c .args .i) (omega arith) (omega (arith, self .whole, self .within)) in
+    record { item = cc; bound = λ h. absurd (false≢true h) }

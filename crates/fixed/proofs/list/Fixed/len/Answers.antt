@@ -1,4 +1,3 @@
-use mathlib.Core.Path.{sym}
 use native.Mathlib.Omega.{arith}
 use Rattle.std.proofs.shelf.Lists.{length-take-le}
 use Rattle.fixed.specs.Items.{items}
@@ -8,4 +7,5 @@ pub returns : need.returns
 unfolding items
 returns g c =
     let self = c .args .self .now in
-    record { value = sym (length-take-le (self .count) (self .slots) (omega (arith, self .whole, self .within))); bound = self .within }
+    let held = length-take-le (self .count) (self .slots) (omega (arith, self .whole, self .within)) in
+    record { value = omega arith; bound = omega (arith, self .within) }

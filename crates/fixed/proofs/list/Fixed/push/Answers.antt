@@ -1,4 +1,4 @@
-use mathlib.Core.Path.{refl, sym}
+use mathlib.Core.Path.{sym}
 use native.Mathlib.Omega.{arith}
 use lib.ListN.{length, take}
 use Rattle.std.proofs.shelf.Lists.{length-take-le, take-more-set}
@@ -11,14 +11,12 @@ unfolding items
 returns-then-self g c =
     let self = c .args .self .now in
     let held = length-take-le (self .count) (self .slots) (omega (arith, self .whole, self .within)) in
-    record { room = sym (le-ltb (length (take (self .count) (self .slots))) (g .N) (omega (arith, c .if-self .taken))); after = refl }
+    record { room = sym (le-ltb (length (take (self .count) (self .slots))) (g .N) (omega arith)); after = cc }
 
 pub returns : need.returns
 unfolding items
 returns g c =
     let self = c .args .self .now in
     let held = length-take-le (self .count) (self .slots) (omega (arith, self .whole, self .within)) in
-    record {
-      room = sym (lt-ltb (length (take (self .count) (self .slots))) (g .N) (omega (arith, c .if-self .left)));
-      after = take-more-set (self .slots) (self .count) (c .args .x) (omega (arith, self .whole, c .if-self .left));
-    }
+    let more = take-more-set (self .slots) (self .count) (c .args .x) (omega (arith, self .whole)) in
+    record { room = sym (lt-ltb (length (take (self .count) (self .slots))) (g .N) (omega arith)); after = cc }
