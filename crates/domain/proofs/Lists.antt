@@ -39,7 +39,7 @@ mapped-twice g h None = refl
 mapped-twice g h (Some x) = refl
 
 -- to put what the function makes of what stands at a place is to change it there
-pub set-changed : {X : Type 0} (f : X → X) (xs : List X) (i : ℕ) (x y : X) → Some x ≡ nth xs i → y ≡ f x → set xs i y ≡ changed f i xs
-set-changed f [] i x y e k = refl
-set-changed f (z ∷ xs) zero x y e k = grind arith
-set-changed f (z ∷ xs) (suc i) x y e k = ap (λ ys. z ∷ ys) (set-changed f xs i x y e k)
+pub set-changed : {X : Type 0} (f : X → X) (xs : List X) (i : ℕ) (x : X) → Some x ≡ nth xs i → set xs i (f x) ≡ changed f i xs
+set-changed f [] i x e = refl
+set-changed f (z ∷ xs) zero x e = grind arith
+set-changed f (z ∷ xs) (suc i) x e = ap (λ ys. z ∷ ys) (set-changed f xs i x e)

@@ -10,6 +10,9 @@ ghost use Rattle.domain.specs.Meaning.{facts};
 use crate::FactList;
 use fixed::Fixed;
 
+/// A list has at most this many facts.
+const MOST_FACTS: usize = 32;
+
 impl FactList {
     /// A list without facts.
     pub fn new() -> FactList
@@ -48,7 +51,7 @@ impl FactList {
         ensures after { λ r. ⌜ facts (now (self .exit)) ≡ cond (isSome r) (facts (now (self .entry)) ++ (fact ∷ [])) (facts (now (self .entry))) ⌝ }
     {
         let label = self.list.len();
-        if label >= 32 {
+        if label >= MOST_FACTS {
             return None;
         }
         let _ = self.list.push(fact);

@@ -15,6 +15,12 @@ use crate::Task;
 use crate::Tasks;
 use page::Answer;
 
+/// There are at most this many tasks, init and goal counted.
+const MOST_TASKS: usize = 32;
+
+/// Facts are the numbers below this one.
+const FACTS: u8 = 64;
+
 /// Whether a task has no deletes: init, goal and every compound task.
 fn never_deletes(t: u8, kind: Kind) -> bool
     ensures { λ r. ⌜ r ≡ (eqb t 0 || (eqb t 1 || not (is-primitive-kind kind))) ⌝ }
@@ -32,7 +38,7 @@ impl Tasks {
         ensures after { λ r. ⌜ tasks (now (self .exit)) ≡ told (row r) (tasks-with-task (is-primitive-kind kind) (tasks (now (self .entry)))) (tasks (now (self .entry))) ⌝ }
     {
         let number = self.list.len();
-        if number >= 32 {
+        if number >= MOST_TASKS {
             return Answer::LimitPassed;
         }
         let _ = self.list.push(Task::bare(kind));
@@ -47,7 +53,7 @@ impl Tasks {
         let Some(mut entry) = self.copy_of(task) else {
             return Answer::NoSuchName { field: 1 };
         };
-        if fact >= 64 {
+        if fact >= FACTS {
             return Answer::NoSuchName { field: 2 };
         }
         if task == 0 {
@@ -68,7 +74,7 @@ impl Tasks {
         let Some(mut entry) = self.copy_of(task) else {
             return Answer::NoSuchName { field: 1 };
         };
-        if fact >= 64 {
+        if fact >= FACTS {
             return Answer::NoSuchName { field: 2 };
         }
         if task == 1 {
@@ -89,7 +95,7 @@ impl Tasks {
         let Some(mut entry) = self.copy_of(task) else {
             return Answer::NoSuchName { field: 1 };
         };
-        if fact >= 64 {
+        if fact >= FACTS {
             return Answer::NoSuchName { field: 2 };
         }
         if never_deletes(task, entry.kind) {

@@ -1,6 +1,4 @@
-use mathlib.Core.Path.{sym, ap, _∙_}
 use denote.Ref.{RefT, now}
-use Rattle.std.specs.Options.{mapped}
 use Rattle.fixed.specs.Items.{items}
 use Rattle.domain.specs.Meaning.{task}
 use Rattle.domain.specs.declared.task.Task.{Task}
@@ -9,5 +7,6 @@ use Rattle.domain.proofs.tasks.Tasks.task.Needs as need
 
 pub returns : need.returns
 returns c =
-    mapped-twice (λ (x : RefT Task). now x) task (c .peek .result) ∙ ap (mapped task) (c .peek .ensures)
-    ∙ sym (nth-map task (items (c .args .self .now .list)) (c .args .t))
+    let seen = mapped-twice (λ (x : RefT Task). now x) task (c .peek .result) in
+    let at = nth-map task (items (c .args .self .now .list)) (c .args .t) in
+    cc (c .peek .ensures)
