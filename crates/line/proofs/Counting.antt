@@ -97,8 +97,8 @@ module _ {ts : List (List ℕ)} {ns : List ℕ} {place : ℕ} {us : List (List �
         long = length-set ns (place - 1) v ∙ s .long;
         room = omega (arith, s .begun, s .room);
         is =
-          s .is ∙ ap (front (take (place - 1) ns)) read ∙ front-onto (take (place - 1) ns) v (numbers (place + 1) vs)
-          ∙ ap (λ x. front x (numbers (place + 1) vs)) (sym more ∙ ap (λ x. take x (set ns (place - 1) v)) i);
+            s .is ∙ ap (front (take (place - 1) ns)) read ∙ front-onto (take (place - 1) ns) v (numbers (place + 1) vs)
+            ∙ ap (λ x. front x (numbers (place + 1) vs)) (sym more ∙ ap (λ x. take x (set ns (place - 1) v)) i);
       }
 
   pub stop : Told t None → Err (NoNumber place) ≡ numbers 1 ts

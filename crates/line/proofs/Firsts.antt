@@ -49,7 +49,7 @@ split [] ts r l c n s e = absurd (omega arith)
 split (x ∷ []) ts r l c n s e = absurd (omega arith)
 split (x ∷ b ∷ bs) ts r l c n s e =
     good (x ∷ b ∷ bs) r n (e ∙ by-first x (b ∷ bs) ts (λ m.
-      cond-false _ _ _ (ne-eqb x 44 m) ∙ ap (on-first x) (cond-true _ _ _ (eq-eqb b 44 c)) ∙ ap (λ y. (x ∷ []) ∷ y) (sym (s ∙ ap fields (take-rest (x ∷ b ∷ bs) 2)))))
+    cond-false _ _ _ (ne-eqb x 44 m) ∙ ap (on-first x) (cond-true _ _ _ (eq-eqb b 44 c)) ∙ ap (λ y. (x ∷ []) ∷ y) (sym (s ∙ ap fields (take-rest (x ∷ b ∷ bs) 2)))))
 
 -- two bytes and more before the first comma
 longer : (x b : ℕ) (fs : List (List ℕ)) → lettered (on-first x (on-first b fs)) ≡ Err NoLetter

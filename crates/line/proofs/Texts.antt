@@ -74,7 +74,7 @@ counted-back k ns l s = cond-true _ _ _ (eq-eqb _ _ (length-map ns decimal ∙ l
 
 -- a letter, and the numbers that its kind wants
 read-of : (l : ℕ) (k : Kind) (ns : List ℕ) → plain l ≡ true → eqb l 44 ≡ false → kind-of kinds l ≡ Some k → length ns ≡ k .count → Small ns
-  → parsed (l ∷ commas ns) ≡ Ok (k .command (λ i. getD ns i 0))
+    → parsed (l ∷ commas ns) ≡ Ok (k .command (λ i. getD ns i 0))
 read-of l k ns p n e c s =
     let fs : fields (l ∷ commas ns) ≡ (l ∷ []) ∷ map decimal ns = cond-false _ _ _ n ∙ ap (on-first l) (fields-commas ns s) in
     ap (λ o. unless-bad o (lettered (fields (l ∷ commas ns)))) (cond-true _ _ _ p ∙ plain-commas ns s 1)
@@ -179,30 +179,59 @@ firsts-all (suc k) (n ∷ ns) e = ap (λ t. n ∷ t) (firsts-next k 0 n ns ∙ f
 -- a kind's command has the kind's letter and the numbers that it was made of
 abbrev Faithful : Kind → Type 0
 Faithful k = (ns : List ℕ) → length ns ≡ k .count
-  → (letter-of (k .command (λ i. getD ns i 0)) ≡ k .letter ∷ []) × (numbers-of (k .command (λ i. getD ns i 0)) ≡ ns)
+    → (letter-of (k .command (λ i. getD ns i 0)) ≡ k .letter ∷ []) × (numbers-of (k .command (λ i. getD ns i 0)) ≡ ns)
 
 abbrev Each : List Kind → Type 0
 Each [] = Unit {0}
 Each (k ∷ ks) = Faithful k × Each ks
 
 each : Each kinds
-each =
-    ( λ ns e. (refl, firsts-all 0 ns e)
-    , (λ ns e. (refl, firsts-all 0 ns e)
-    , (λ ns e. (refl, firsts-all 2 ns e)
-    , (λ ns e. (refl, firsts-all 2 ns e)
-    , (λ ns e. (refl, firsts-all 2 ns e)
-    , (λ ns e. (refl, firsts-all 0 ns e)
-    , (λ ns e. (refl, firsts-all 1 ns e)
-    , (λ ns e. (refl, firsts-all 3 ns e)
-    , (λ ns e. (refl, firsts-all 3 ns e)
-    , (λ ns e. (refl, firsts-all 0 ns e)
-    , (λ ns e. (refl, firsts-all 1 ns e)
-    , (λ ns e. (refl, firsts-all 2 ns e)
-    , (λ ns e. (refl, firsts-all 4 ns e)
-    , (λ ns e. (refl, firsts-all 2 ns e)
-    , (λ ns e. (refl, firsts-all 0 ns e)
-    , (λ ns e. (refl, firsts-all 1 ns e), tt))))))))))))))))
+each = (
+  λ ns e. (refl, firsts-all 0 ns e),
+  (
+    λ ns e. (refl, firsts-all 0 ns e),
+    (
+      λ ns e. (refl, firsts-all 2 ns e),
+      (
+        λ ns e. (refl, firsts-all 2 ns e),
+        (
+          λ ns e. (refl, firsts-all 2 ns e),
+          (
+            λ ns e. (refl, firsts-all 0 ns e),
+            (
+              λ ns e. (refl, firsts-all 1 ns e),
+              (
+                λ ns e. (refl, firsts-all 3 ns e),
+                (
+                  λ ns e. (refl, firsts-all 3 ns e),
+                  (
+                    λ ns e. (refl, firsts-all 0 ns e),
+                    (
+                      λ ns e. (refl, firsts-all 1 ns e),
+                      (
+                        λ ns e. (refl, firsts-all 2 ns e),
+                        (
+                          λ ns e. (refl, firsts-all 4 ns e),
+                          (
+                            λ ns e. (refl, firsts-all 2 ns e),
+                            (
+                              λ ns e. (refl, firsts-all 0 ns e),
+                              (λ ns e. (refl, firsts-all 1 ns e), tt),
+                            ),
+                          ),
+                        ),
+                      ),
+                    ),
+                  ),
+                ),
+              ),
+            ),
+          ),
+        ),
+      ),
+    ),
+  ),
+)
 
 found : (ks : List Kind) (l : ℕ) (k : Kind) → Each ks → kind-of ks l ≡ Some k → Faithful k × (k .letter ≡ l)
 found [] l k a e = absurd (let z : _≡_ {A = ℕ} 0 1 = cc in omega arith)
@@ -234,8 +263,8 @@ module _ (line : List ℕ) (c : Command) where
       let numbers : numbers-of c ≡ ns = ap numbers-of (sym same) ∙ two .1 in
       record {
         text =
-          sym (whole line) ∙ ap joined (f ∙ ap (λ x. (l ∷ []) ∷ x) (h .1 .is)) ∙ join-commas ns (l ∷ [])
-          ∙ (λ i. sym letter i ++ commas (sym numbers i));
+            sym (whole line) ∙ ap joined (f ∙ ap (λ x. (l ∷ []) ∷ x) (h .1 .is)) ∙ join-commas ns (l ∷ [])
+            ∙ (λ i. sym letter i ++ commas (sym numbers i));
         few = subst Small (sym numbers) (h .1 .few);
       }
 

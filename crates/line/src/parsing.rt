@@ -5,9 +5,9 @@ ghost use Rattle.line.specs.Letters.{kind-of, kinds, plan-kinds};
 ghost use Rattle.line.specs.Parse.{counted, of-kind, parsed, without-numbers};
 use crate::Command;
 use crate::Fields;
-use crate::reading::FieldsIterator;
 use crate::Refusal;
 use crate::number::number;
+use crate::reading::FieldsIterator;
 
 /// Whether a line may hold this byte.
 fn is_plain(b: u8) -> bool
@@ -110,7 +110,12 @@ fn plan_command(letter: char, after: Fields<'_>) -> Result<Command, Refusal>
         }
         'L' => {
             let [producer, add, consumer, need] = numbers::<4>(after)?;
-            Ok(Command::PutLink { producer, add, consumer, need })
+            Ok(Command::PutLink {
+                producer,
+                add,
+                consumer,
+                need,
+            })
         }
         'X' => {
             let [step, method] = numbers::<2>(after)?;

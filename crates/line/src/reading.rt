@@ -26,7 +26,11 @@ impl<'a> Fields<'a> {
         ensures fields { λ r. ⌜ left (r .more) (now (r .rest)) ≡ fields (now (line .entry)) ⌝ }
         ensures place { λ r. ⌜ r .place ≡ 0 ⌝ }
     {
-        Fields { rest: line, more: true, place: 0 }
+        Fields {
+            rest: line,
+            more: true,
+            place: 0,
+        }
     }
 
     /// The fields after a line's letter and the comma that follows it.
@@ -34,7 +38,11 @@ impl<'a> Fields<'a> {
         ensures fields { λ r. ⌜ left (r .more) (now (r .rest)) ≡ fields (now (rest .entry)) ⌝ }
         ensures place { λ r. ⌜ r .place ≡ 1 ⌝ }
     {
-        Fields { rest, more: true, place: 1 }
+        Fields {
+            rest,
+            more: true,
+            place: 1,
+        }
     }
 
     /// The fields after the letter of a line that is a letter alone: none.
@@ -42,7 +50,11 @@ impl<'a> Fields<'a> {
         ensures fields { λ r. ⌜ left (r .more) (now (r .rest)) ≡ [] ⌝ }
         ensures place { λ r. ⌜ r .place ≡ 1 ⌝ }
     {
-        Fields { rest: line, more: false, place: 1 }
+        Fields {
+            rest: line,
+            more: false,
+            place: 1,
+        }
     }
 
     /// How many fields are left.
@@ -76,11 +88,19 @@ pub impl<'a> Iterator for Fields<'a> as FieldsIterator {
         match comma(rest) {
             Some(i) => {
                 let (text, after) = rest.split_at(i);
-                *self = Fields { rest: &after[1..], more: true, place: place + 1 };
+                *self = Fields {
+                    rest: &after[1..],
+                    more: true,
+                    place: place + 1,
+                };
                 Some(Field { place, text })
             }
             None => {
-                *self = Fields { rest: &rest[0..0], more: false, place: place + 1 };
+                *self = Fields {
+                    rest: &rest[0..0],
+                    more: false,
+                    place: place + 1,
+                };
                 Some(Field { place, text: rest })
             }
         }

@@ -35,13 +35,14 @@ loop-b-again c =
     let low : i < 1 → c .loop-b .value ≤ 0 = c .loop-b .inv .2 in
     let mid : i < 2 → c .loop-b .value ≤ 9 = c .loop-b .inv .3 in
     let high : i < 3 → c .loop-b .value ≤ 99 = c .loop-b .inv .4 in
-    let len : length text ≤ 3 = omega arith in
-    ( digits-more text i (c .loop-b-test .taken) (c .if-b-lt48 .left) (c .if-b-gt57 .left) (c .loop-b .inv .0)
-    , sym e ∙ c .loop-b .inv .1
-    , λ h. omega arith
-    , λ h. omega (arith, low (omega arith))
-    , λ h. omega (arith, mid (omega arith))
-    , omega (arith, high (omega arith)))
+    let len : length text ≤ 3 = omega arith in (
+      digits-more text i (c .loop-b-test .taken) (c .if-b-lt48 .left) (c .if-b-gt57 .left) (c .loop-b .inv .0),
+      sym e ∙ c .loop-b .inv .1,
+      λ h. omega arith,
+      λ h. omega (arith, low (omega arith)),
+      λ h. omega (arith, mid (omega arith)),
+      omega (arith, high (omega arith)),
+    )
 
 pub returns-then-value-gt255 : need.returns-then-value-gt255
 returns-then-value-gt255 c =
