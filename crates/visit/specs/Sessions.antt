@@ -1,6 +1,6 @@
 -- What becomes of each line of a domain, as far as its tasks: the row that it gets, if any yet, and what it leaves.
 use mathlib.Core.Bool.{true, false}
-use mathlib.Core.List.{List}
+use mathlib.Core.List.{List, [], _∷_}
 use Prim.Native.Nat.{ℕ}
 use lib.ListN.{length}
 use Rattle.std.specs.Finite.{nth}
@@ -9,6 +9,7 @@ use Rattle.std.specs.declared.option.Option.{Option}
 use Rattle.std.specs.declared.option.Option.the-variants.{Some, None}
 use Rattle.std.specs.declared.result.Result.{Result}
 use Rattle.std.specs.declared.result.Result.the-variants.{Ok, Err}
+use Rattle.line.specs.Parse.{parsed}
 use Rattle.line.specs.declared.command.Command.{Command}
 use Rattle.line.specs.declared.command.Command.the-variants.{NewPrimitive, NewCompound, AppendNeed, AppendAdd, AppendDelete, EndPhase, OpenMethod, NewStep, PutOrder, PutLink, RouteNeed, RouteAdd, CloseMethod, Decompose, Judge, Take}
 use Rattle.line.specs.declared.command.Refusal.{Refusal}
@@ -142,6 +143,15 @@ line-phase ph (Err e) = ph
 abbrev pub line-tasks : Phase → List Task → Result Command Refusal → List Task
 line-tasks ph ts (Ok c) = command-tasks ph ts c
 line-tasks ph ts (Err e) = ts
+
+-- what some lines leave, told one after another
+abbrev pub lines-phase : Phase → List (List ℕ) → Phase
+lines-phase ph [] = ph
+lines-phase ph (l ∷ ls) = lines-phase (line-phase ph (parsed l)) ls
+
+abbrev pub lines-tasks : Phase → List Task → List (List ℕ) → List Task
+lines-tasks ph ts [] = ts
+lines-tasks ph ts (l ∷ ls) = lines-tasks (line-phase ph (parsed l)) (line-tasks ph ts (parsed l)) ls
 
 -- the row of an answer that may be none
 abbrev pub answer-row : Option Answer → Option Row

@@ -1,6 +1,9 @@
 //! Reads the domain of a truck's visit to a quarry's weighbridge, line by line, and says what becomes of each line.
-ghost use Prim.Native.Nat.{_+_, _^_, _<_};
-ghost use Rattle.std.specs.Of.Vec.{vec-len};
+ghost use mathlib.Core.Path.{_≡_};
+ghost use Rattle.std.specs.Vec.{made};
+ghost use Rattle.page.specs.Lines.{lines};
+ghost use Rattle.domain.specs.Meaning.{tasks};
+ghost use Rattle.visit.specs.Sessions.{lines-phase, lines-tasks};
 mod session;
 mod telling;
 mod words;
@@ -23,16 +26,13 @@ Tasks: 0 init, 1 goal, 2 weigh empty, 3 load, 4 weigh full, 5 serve truck (compo
 For each line: the line, its row (code and three numbers), and what happened. Code 0 is accepted.
 ";
 
-/// The whole input, or its first bytes where it has too many: one more than the program reads.
-fn read_input(rt: &LibcRuntime) -> io::Result<Vec<u8>> {
-    let mut text = Vec::new(rt.alloc());
-    rt.stdin().take(MOST_BYTES as u64 + 1).read_to_end(&mut text)?;
-    Ok(text)
-}
-
 /// Tells each line of the text, and prints what became of it.
-fn tell_all(rt: &LibcRuntime, text: &[u8]) -> io::Result<()> {
-    let mut session = Session::open();
+///
+/// Where all could be printed, the domain stands as the lines of the text leave it.
+fn tell_all(rt: &LibcRuntime, session: &mut Session, text: &[u8]) -> io::Result<()>
+    ensures phase { λ r. ⌜ made r (λ _. now (session .exit) .phase ≡ lines-phase (now (session .entry) .phase) (lines (now (text .entry)))) ⌝ }
+    ensures tasks { λ r. ⌜ made r (λ _. tasks (now (session .exit) .tasks) ≡ lines-tasks (now (session .entry) .phase) (tasks (now (session .entry) .tasks)) (lines (now (text .entry)))) ⌝ }
+{
     let mut number = 0;
     let mut at = 0;
     while let Some(line) = line_at(text, at) {
@@ -49,10 +49,12 @@ fn tell_all(rt: &LibcRuntime, text: &[u8]) -> io::Result<()> {
 }
 
 fn main(rt: LibcRuntime) -> io::Result<()> {
-    let text = read_input(&rt)?;
+    let mut text = Vec::new(rt.alloc());
+    rt.stdin().take(MOST_BYTES as u64 + 1).read_to_end(&mut text)?;
     if text.len() > MOST_BYTES {
         return println!(rt, "The text is longer than {MOST_BYTES} bytes, and is not read.");
     }
     rt.println(LEGEND)?;
-    tell_all(&rt, text.as_slice())
+    let mut session = Session::open();
+    tell_all(&rt, &mut session, text.as_slice())
 }

@@ -134,7 +134,7 @@ fn wrong_kind<W: fmt::Write>(command: Command, f: &mut fmt::Formatter<W>) -> fmt
     match command {
         Command::AppendNeed { .. } => write!(f, "task 0, init, has no needs."),
         Command::AppendAdd { .. } => write!(f, "task 1, goal, has no adds."),
-        Command::AppendDelete { task, .. } => write!(f, "task {task} has no deletes; init, goal and compound tasks have none."),
+        Command::AppendDelete { task, .. } => write!(f, "init, goal and compound tasks have no deletes, and task {task} is one of them."),
         _ => write!(f, "the task is of the wrong kind."),
     }
 }
