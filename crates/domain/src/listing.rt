@@ -18,7 +18,10 @@ impl FactList {
     pub fn new() -> FactList
         ensures { λ r. ⌜ facts r ≡ [] ⌝ }
     {
-        FactList { list: Fixed::new(0), mask: 0 }
+        FactList {
+            list: Fixed::new(0),
+            mask: 0,
+        }
     }
 
     /// The fact with this label.

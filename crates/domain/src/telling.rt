@@ -42,7 +42,9 @@ impl Tasks {
             return Answer::LimitPassed;
         }
         let _ = self.list.push(Task::bare(kind));
-        Answer::Accepted { number: number as u64 }
+        Answer::Accepted {
+            number: number as u64,
+        }
     }
 
     /// N: a fact ends the needs of a task. Its label is the answer.
@@ -63,7 +65,9 @@ impl Tasks {
             return Answer::LimitPassed;
         };
         self.replace(task, entry);
-        Answer::Accepted { number: label as u64 }
+        Answer::Accepted {
+            number: label as u64,
+        }
     }
 
     /// A: a fact ends the adds of a task. Its label is the answer.
@@ -84,7 +88,9 @@ impl Tasks {
             return Answer::LimitPassed;
         };
         self.replace(task, entry);
-        Answer::Accepted { number: label as u64 }
+        Answer::Accepted {
+            number: label as u64,
+        }
     }
 
     /// D: a fact ends the deletes of a task. Its label is the answer.
@@ -105,6 +111,8 @@ impl Tasks {
             return Answer::LimitPassed;
         };
         self.replace(task, entry);
-        Answer::Accepted { number: label as u64 }
+        Answer::Accepted {
+            number: label as u64,
+        }
     }
 }

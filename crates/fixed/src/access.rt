@@ -15,7 +15,10 @@ impl<T: Copy, const N: usize> Fixed<T, N> {
         requires { ⌜ N < 65536 ⌝ }
         ensures { λ r. ⌜ items r ≡ [] ⌝ }
     {
-        Fixed { slots: [blank; N], count: 0 }
+        Fixed {
+            slots: [blank; N],
+            count: 0,
+        }
     }
 
     /// How many things the list holds.
@@ -31,14 +34,19 @@ impl<T: Copy, const N: usize> Fixed<T, N> {
         ensures item { λ r. ⌜ r ≡ nth (items (now (self .entry))) i ⌝ }
         ensures bound { λ r. ⌜ (isSome r ≡ true → i < N) ⌝ }
     {
-        if i < self.count as usize { Some(self.slots[i]) } else { None }
+        self.peek(i).copied()
     }
 
     /// What stands at place `i`, lent and not copied, or `None` from the end on.
     pub fn peek(&self, i: usize) -> Option<&T>
-        ensures { λ r. ⌜ mapped (λ x. now x) r ≡ nth (items (now (self .entry))) i ⌝ }
+        ensures item { λ r. ⌜ mapped (λ x. now x) r ≡ nth (items (now (self .entry))) i ⌝ }
+        ensures bound { λ r. ⌜ (isSome r ≡ true → i < N) ⌝ }
     {
-        if i < self.count as usize { Some(&self.slots[i]) } else { None }
+        if i < self.count as usize {
+            Some(&self.slots[i])
+        } else {
+            None
+        }
     }
 
     /// All that the list holds, in its order.
@@ -65,7 +73,7 @@ impl<T: Copy, const N: usize> Fixed<T, N> {
     pub fn change(&mut self, i: usize, x: T)
         ensures { λ _. ⌜ items (now (self .exit)) ≡ set (items (now (self .entry))) i x ⌝ }
     {
-        if i < self.count as usize {
+        if i < self.len() {
             self.slots[i] = x;
         }
     }

@@ -4,6 +4,7 @@ ghost use Rattle.std.specs.Vec.{made};
 ghost use Rattle.page.specs.Lines.{lines};
 ghost use Rattle.domain.specs.Meaning.{tasks};
 ghost use Rattle.visit.specs.Sessions.{lines-phase, lines-tasks};
+
 mod session;
 mod telling;
 mod words;
@@ -50,9 +51,14 @@ fn tell_all(rt: &LibcRuntime, session: &mut Session, text: &[u8]) -> io::Result<
 
 fn main(rt: LibcRuntime) -> io::Result<()> {
     let mut text = Vec::new(rt.alloc());
-    rt.stdin().take(MOST_BYTES as u64 + 1).read_to_end(&mut text)?;
+    rt.stdin()
+        .take(MOST_BYTES as u64 + 1)
+        .read_to_end(&mut text)?;
     if text.len() > MOST_BYTES {
-        return println!(rt, "The text is longer than {MOST_BYTES} bytes, and is not read.");
+        return println!(
+            rt,
+            "The text is longer than {MOST_BYTES} bytes, and is not read."
+        );
     }
     rt.println(LEGEND)?;
     let mut session = Session::open();

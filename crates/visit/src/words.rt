@@ -68,13 +68,26 @@ fn sentence<W: fmt::Write>(reply: Reply, f: &mut fmt::Formatter<W>) -> fmt::Resu
 }
 
 /// What an accepted command did.
-fn accepted<W: fmt::Write>(command: Command, number: u64, f: &mut fmt::Formatter<W>) -> fmt::Result {
+fn accepted<W: fmt::Write>(
+    command: Command,
+    number: u64,
+    f: &mut fmt::Formatter<W>,
+) -> fmt::Result {
     match command {
         Command::NewPrimitive => write!(f, "Task {number} is new and primitive."),
         Command::NewCompound => write!(f, "Task {number} is new and compound."),
-        Command::AppendNeed { task, fact } => write!(f, "Task {task} needs fact {fact}, label {number}."),
-        Command::AppendAdd { task, fact } => write!(f, "Task {task} adds fact {fact}, label {number}."),
-        Command::AppendDelete { task, fact } => write!(f, "Task {task} deletes fact {fact}, label {number}."),
+        Command::AppendNeed { task, fact } => write!(
+            f,
+            "Task {task} needs fact {fact}, label {number}."
+        ),
+        Command::AppendAdd { task, fact } => write!(
+            f,
+            "Task {task} adds fact {fact}, label {number}."
+        ),
+        Command::AppendDelete { task, fact } => write!(
+            f,
+            "Task {task} deletes fact {fact}, label {number}."
+        ),
         Command::EndPhase => write!(f, "The tasks are complete; the phase is methods."),
         _ => write!(f, "Accepted."),
     }
@@ -85,16 +98,29 @@ fn unread<W: fmt::Write>(answer: Answer, f: &mut fmt::Formatter<W>) -> fmt::Resu
     let Row { code, .. } = answer.row();
     write!(f, "Refused, number {code}: ")?;
     match answer {
-        Answer::BadByte { place } => write!(f, "the byte at place {place} may not stand in a line."),
+        Answer::BadByte { place } => write!(
+            f,
+            "the byte at place {place} may not stand in a line."
+        ),
         Answer::NoLetter => write!(f, "the first field is not the letter of a command."),
-        Answer::FieldCount { count } => write!(f, "the letter takes another count of fields than {count}."),
-        Answer::NoNumber { field } => write!(f, "field {field} is no number from 0 to 255 without leading zeros."),
+        Answer::FieldCount { count } => write!(
+            f,
+            "the letter takes another count of fields than {count}."
+        ),
+        Answer::NoNumber { field } => write!(
+            f,
+            "field {field} is no number from 0 to 255 without leading zeros."
+        ),
         _ => write!(f, "the line is no command."),
     }
 }
 
 /// Why a command is refused.
-fn refused<W: fmt::Write>(command: Command, answer: Answer, f: &mut fmt::Formatter<W>) -> fmt::Result {
+fn refused<W: fmt::Write>(
+    command: Command,
+    answer: Answer,
+    f: &mut fmt::Formatter<W>,
+) -> fmt::Result {
     let Row { code, .. } = answer.row();
     write!(f, "Refused, number {code}: ")?;
     match answer {
@@ -112,18 +138,26 @@ fn wrong_phase<W: fmt::Write>(command: Command, f: &mut fmt::Formatter<W>) -> fm
         | Command::NewCompound
         | Command::AppendNeed { .. }
         | Command::AppendAdd { .. }
-        | Command::AppendDelete { .. } => write!(f, "the letter belongs to phase tasks, which has ended."),
+        | Command::AppendDelete { .. } => write!(
+            f,
+            "the letter belongs to phase tasks, which has ended."
+        ),
         _ => write!(f, "the letter belongs to a later phase than tasks."),
     }
 }
 
 fn nameless<W: fmt::Write>(command: Command, field: u8, f: &mut fmt::Formatter<W>) -> fmt::Result {
     match command {
-        Command::AppendNeed { task, fact } | Command::AppendAdd { task, fact } | Command::AppendDelete { task, fact } => {
+        Command::AppendNeed { task, fact }
+        | Command::AppendAdd { task, fact }
+        | Command::AppendDelete { task, fact } => {
             if field == 1 {
                 write!(f, "there is no task {task}.")
             } else {
-                write!(f, "facts are the numbers 0 to 63, and {fact} is none of them.")
+                write!(
+                    f,
+                    "facts are the numbers 0 to 63, and {fact} is none of them."
+                )
             }
         }
         _ => write!(f, "field {field} names nothing."),
@@ -134,7 +168,10 @@ fn wrong_kind<W: fmt::Write>(command: Command, f: &mut fmt::Formatter<W>) -> fmt
     match command {
         Command::AppendNeed { .. } => write!(f, "task 0, init, has no needs."),
         Command::AppendAdd { .. } => write!(f, "task 1, goal, has no adds."),
-        Command::AppendDelete { task, .. } => write!(f, "init, goal and compound tasks have no deletes, and task {task} is one of them."),
+        Command::AppendDelete { task, .. } => write!(
+            f,
+            "init, goal and compound tasks have no deletes, and task {task} is one of them."
+        ),
         _ => write!(f, "the task is of the wrong kind."),
     }
 }

@@ -13,7 +13,7 @@ Inv-loop-line l =
     × (l .at ≤ length (l .entry .text))
     × (lines-phase (l .session .phase) (lines (drop (l .at) (l .entry .text))) ≡ lines-phase (l .entry .session .phase) (lines (l .entry .text)))
     × (lines-tasks (l .session .phase) (tasks (l .session .tasks)) (lines (drop (l .at) (l .entry .text)))
-        ≡ lines-tasks (l .entry .session .phase) (tasks (l .entry .session .tasks)) (lines (l .entry .text)))
+    ≡ lines-tasks (l .entry .session .phase) (tasks (l .entry .session .tasks)) (lines (l .entry .text)))
 
 -- what is left of the text
 abbrev pub μ-loop-line : given.MeasureT-loop-line

@@ -19,6 +19,7 @@ ghost-self c =
     let fact = c .args .fact in
     let more : items (c .push .last .self) ≡ items (self .list) ++ (fact ∷ []) = search needs in
     let joined : (g : ℕ) → bit (bitOr (self .mask) (1 * 2 ^ fact % 2 ^ 64)) g ≡ (bit (self .mask) g || eqb fact g) =
-    λ g. ap (λ m. bit (bitOr (self .mask) m) g) (one-shl fact 64 (c .pre)) ∙ bit-or (self .mask) (2 ^ fact) g ∙ ap (λ b. bit (self .mask) g || b) (bit-pow fact g) in
-    ( (λ g h. let p = among-push g (items (self .list)) fact in let s = self .small g in grind (arith, more, c .pre))
-    , ((λ g. let p = among-push g (items (self .list)) fact in let s = self .marked g in let j = joined g in grind (arith, more)), tt))
+    λ g. ap (λ m. bit (bitOr (self .mask) m) g) (one-shl fact 64 (c .pre)) ∙ bit-or (self .mask) (2 ^ fact) g ∙ ap (λ b. bit (self .mask) g || b) (bit-pow fact g) in (
+      (λ g h. let p = among-push g (items (self .list)) fact in let s = self .small g in grind (arith, more, c .pre)),
+      ((λ g. let p = among-push g (items (self .list)) fact in let s = self .marked g in let j = joined g in grind (arith, more)), tt),
+    )

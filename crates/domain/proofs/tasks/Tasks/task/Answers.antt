@@ -9,4 +9,4 @@ pub returns : need.returns
 returns c =
     let seen = mapped-twice (λ (x : RefT Task). now x) task (c .peek .result) in
     let at = nth-map task (items (c .args .self .now .list)) (c .args .t) in
-    cc (c .peek .ensures)
+    cc (c .peek .ensures .item)
