@@ -24,7 +24,7 @@ pub struct Session {
 pub enum Reply {
     /// The line is no command.
     Unread { refusal: Refusal },
-    /// The line is a command of this checker, and has its answer.
+    /// The line is a command, and this is its answer.
     Told { command: Command, answer: Answer },
     /// The line is a command of a phase that comes after the tasks, and is not carried out yet.
     Later { command: Command },

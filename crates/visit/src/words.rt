@@ -4,7 +4,11 @@ use line::Command;
 use page::Answer;
 use page::RefusalAnswer;
 use page::Row;
+use page::line_at;
 use std::fmt;
+
+/// Every row fits in a page of this many bytes.
+const ROW_BYTES: usize = 28;
 
 /// The bytes of a line as they are printed: printable ASCII as it stands, a backslash doubled, any other byte as `\x`
 /// and two digits.
@@ -20,6 +24,7 @@ pub impl fmt::Display for Shown<'_> as ShownDisplay {
     }
 }
 
+/// One byte, as it is printed.
 fn show_byte<W: fmt::Write>(b: u8, f: &mut fmt::Formatter<W>) -> fmt::Result {
     match b {
         b'\\' => write!(f, "\\\\"),
@@ -45,13 +50,24 @@ pub impl fmt::Display for Report<'_> as ReportDisplay {
         let line = Shown(self.line);
         write!(f, "Line {number}: {line} | ")?;
         match self.reply.answer() {
-            Some(answer) => {
-                let Row { code, a, b, c } = answer.row();
-                write!(f, "{code},{a},{b},{c} | ")?;
-            }
-            None => write!(f, "no row | ")?,
+            Some(answer) => write_row(answer, f)?,
+            None => write!(f, "no row")?,
         }
+        write!(f, " | ")?;
         sentence(self.reply, f)
+    }
+}
+
+/// The row as a page has it, without its break.
+fn write_row<W: fmt::Write>(answer: Answer, f: &mut fmt::Formatter<W>) -> fmt::Result {
+    let mut page = [0; ROW_BYTES];
+    let _ = answer.write(&mut page, 0);
+    match line_at(&page, 0) {
+        Some(row) => {
+            let text = Shown(row.text);
+            write!(f, "{text}")
+        }
+        None => Ok(()),
     }
 }
 
@@ -132,6 +148,7 @@ fn refused<W: fmt::Write>(
     }
 }
 
+/// Why the phase has no such letter.
 fn wrong_phase<W: fmt::Write>(command: Command, f: &mut fmt::Formatter<W>) -> fmt::Result {
     match command {
         Command::NewPrimitive
@@ -146,6 +163,7 @@ fn wrong_phase<W: fmt::Write>(command: Command, f: &mut fmt::Formatter<W>) -> fm
     }
 }
 
+/// Which number names nothing.
 fn nameless<W: fmt::Write>(command: Command, field: u8, f: &mut fmt::Formatter<W>) -> fmt::Result {
     match command {
         Command::AppendNeed { task, fact }
@@ -164,6 +182,7 @@ fn nameless<W: fmt::Write>(command: Command, field: u8, f: &mut fmt::Formatter<W
     }
 }
 
+/// What the kind of the task forbids.
 fn wrong_kind<W: fmt::Write>(command: Command, f: &mut fmt::Formatter<W>) -> fmt::Result {
     match command {
         Command::AppendNeed { .. } => write!(f, "task 0, init, has no needs."),
@@ -176,6 +195,7 @@ fn wrong_kind<W: fmt::Write>(command: Command, f: &mut fmt::Formatter<W>) -> fmt
     }
 }
 
+/// Which limit is reached.
 fn limit_passed<W: fmt::Write>(command: Command, f: &mut fmt::Formatter<W>) -> fmt::Result {
     match command {
         Command::NewPrimitive | Command::NewCompound => write!(f, "there are 32 tasks already."),
