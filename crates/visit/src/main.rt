@@ -1,5 +1,7 @@
 //! Reads the domain of a truck's visit to a quarry's weighbridge, line by line, and says what becomes of each line.
 ghost use mathlib.Core.Path.{_≡_};
+ghost use lib.Dec.{ltb};
+ghost use lib.ListN.{length};
 ghost use Rattle.std.specs.Vec.{made};
 ghost use Rattle.page.specs.Lines.{lines};
 ghost use Rattle.domain.specs.Meaning.{tasks};
@@ -26,6 +28,13 @@ Facts: 0 truck on the bridge, 1 empty weight stored, 2 load on board, 3 full wei
 Tasks: 0 init, 1 goal, 2 weigh empty, 3 load, 4 weigh full, 5 serve truck (compound).
 For each line: the line, its row (code and three numbers), and what happened. Code 0 is accepted.
 ";
+
+/// Whether a text has more bytes than the program reads.
+fn is_too_long(text: &[u8]) -> bool
+    ensures { λ r. ⌜ r ≡ ltb 16384 (length (now (text .entry))) ⌝ }
+{
+    text.len() > MOST_BYTES
+}
 
 /// Tells each line of the text, and prints what became of it.
 ///
@@ -54,7 +63,7 @@ fn main(rt: LibcRuntime) -> io::Result<()> {
     rt.stdin()
         .take(MOST_BYTES as u64 + 1)
         .read_to_end(&mut text)?;
-    if text.len() > MOST_BYTES {
+    if is_too_long(text.as_slice()) {
         return println!(
             rt,
             "The text is longer than {MOST_BYTES} bytes, and is not read."
