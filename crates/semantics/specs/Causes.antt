@@ -2,6 +2,7 @@
 use mathlib.Core.Bool.{Bool, cond, false, true}
 use mathlib.Core.List.{[], List, _∷_}
 use Prim.Native.Nat.{suc, ℕ}
+use lib.Dec.{eqb}
 use Rattle.std.specs.declared.option.Option.{Option}
 use Rattle.std.specs.declared.option.Option.the-variants.{None, Some}
 use Rattle.page.specs.Answers.{as-row}
@@ -30,6 +31,10 @@ or-else n (Some v) rest = as-row n (v .0) (v .1) (v .2)
 abbrev pub first-of : List Cause → ℕ → Row
 first-of [] number = as-row 0 number 0 0
 first-of (r ∷ rs) number = or-else (r .0) (r .1) (first-of rs number)
+
+-- what a line leaves, by its row: an accepted one (code 0) the new, and a refused one the old
+abbrev pub told : {X : Type 0} → Row → X → X → X
+told w new old = cond (eqb (w .code) 0) new old
 
 -- the first number of a list that passes a test
 abbrev pub first-such : (ℕ → Bool) → List ℕ → Option ℕ
