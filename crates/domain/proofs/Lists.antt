@@ -11,7 +11,7 @@ use Rattle.std.specs.Options.{isSome, mapped}
 use Rattle.std.specs.declared.option.Option.{Option}
 use Rattle.std.specs.declared.option.Option.the-variants.{Some, None}
 use Rattle.semantics.specs.Tasks.{changed}
-use Rattle.domain.specs.Facts.{among}
+use Rattle.semantics.specs.Facts.{among}
 
 -- the facts of a list with one more
 pub among-push : (f : ℕ) (gs : List ℕ) (g : ℕ) → among f (gs ++ (g ∷ [])) ≡ (among f gs || eqb f g)

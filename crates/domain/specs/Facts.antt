@@ -1,6 +1,6 @@
 -- Facts in a list, and as bits.
-use mathlib.Core.Bool.{Bool, false, cond, _||_}
-use mathlib.Core.List.{List, [], _∷_}
+use mathlib.Core.Bool.{Bool, cond}
+use mathlib.Core.List.{List}
 use Prim.Native.Nat.{ℕ, _/_, _%_, _^_}
 use lib.Dec.{eqb, leb}
 use lib.ListN.{length}
@@ -10,11 +10,6 @@ use Rattle.std.specs.declared.option.Option.the-variants.{Some, None}
 -- the bit of n at place y
 unfoldable pub bit : ℕ → ℕ → Bool
 bit n y = eqb (n / 2 ^ y % 2) 1
-
--- whether a fact is in a list
-abbrev pub among : ℕ → List ℕ → Bool
-among f [] = false
-among f (g ∷ gs) = eqb f g || among f gs
 
 -- the label of one more fact, in a list of at most 32
 abbrev pub label-of-next : List ℕ → Option ℕ

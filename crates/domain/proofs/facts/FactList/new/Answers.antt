@@ -1,6 +1,6 @@
 use mathlib.Core.Path.{sym, ap, _∙_}
 use native.Mathlib.Omega.{arith}
-use Rattle.domain.specs.Facts.{among}
+use Rattle.semantics.specs.Facts.{among}
 use Rattle.domain.proofs.Bits.{bit-zero}
 use Rattle.domain.proofs.facts.FactList.new.Needs as need
 
