@@ -1,0 +1,4 @@
+pub mod Bits
+pub mod Rows
+pub mod Ordered
+pub mod Tables
