@@ -1,15 +1,17 @@
 -- One bit of a number that is made by `|`, `&` or `!`.
 use mathlib.Core.Path.{_≡_, refl, sym, ap, ap₂, subst, _∙_}
 use mathlib.Core.Bool.{Bool, true, false, not, _&&_, _||_}
-use mathlib.Core.Logic.{_⊎_, inl, inr}
+use mathlib.Core.Logic.{_⊎_, inl, inr, ⊎-elim}
 use Prim.Native.Nat.{ℕ, zero, suc, _+_, _-_, _*_, _/_, _%_, _^_, _<_, _≤_}
-use native.Mathlib.Nat.{div-eq-of-lt, mod-eq-of-lt, mul-mod-left, pow-suc, mod-lt}
-use native.Mathlib.Numerals.{add-one}
+use native.Mathlib.Nat.{div-eq-of-lt, div-one, mod-eq-of-lt, mul-mod-left, pow-suc, mod-lt}
+use native.Mathlib.Numerals.{add-one, one-add}
 use native.Mathlib.Omega.{arith}
+use lib.Count.{trailingZeros, under}
 use lib.Dec.{eqb, lit<}
-use lib.Bits.{bitAnd, bitOr, bitXor, and-shr, or-shr, xor-shr, and-mod, or-mod, xor-mod, and-mask, and-comm, xor-add-and}
-use Rattle.std.proofs.shelf.Bits.{pow-pos, pow-add, pow-below, shl-shr}
-use Rattle.std.proofs.shelf.Tests.{cases-order, eq-eqb, ne-eqb, false≢true}
+use lib.Pow.{pow-mono}
+use lib.Bits.{bitAnd, bitOr, bitXor, and-le-r, or-add-and, and-shr, or-shr, xor-shr, and-mod, or-mod, xor-mod, and-mask, and-comm, xor-add-and}
+use Rattle.std.proofs.shelf.Bits.{pow-add, pow-below, pow-pos, shl-shr, shr-below, shr-shr}
+use Rattle.std.proofs.shelf.Tests.{both-ways, cases-lt, cases-order, eq-eqb, false≢true, ne-eqb, or-right}
 use Rattle.std.proofs.shelf.Ways.{tells}
 use Rattle.order.specs.Marks.{bit}
 
@@ -109,9 +111,50 @@ bit-ones y h =
     and-self-bit (bit (2 ^ y) y) (bit 18446744073709551615 y)
     (sym (bit-and (2 ^ y) 18446744073709551615 y) ∙ ap (λ (k : ℕ). bit k y) full) here
 
+-- `m & !p` at 64 bits
+pub bit-and-not : (m p y : ℕ) → p < 2 ^ 64 → (bit m y ≡ true → y < 64) → bit (bitAnd m (18446744073709551615 - p)) y ≡ (bit m y && not (bit p y))
+bit-and-not m p y hp hy =
+    ap (λ (k : ℕ). bit (bitAnd m k) y) (minus-is-xor p hp)
+    ∙ bit-and m (bitXor 18446744073709551615 p) y
+    ∙ clear-case (bit m y) (bit (bitXor 18446744073709551615 p) y) (not (bit p y)) (λ e. bit-xor 18446744073709551615 p y (bit-ones y (hy e)))
+
+-- `m & !(1 << a)` at 64 bits
 pub bit-clear : (m a y : ℕ) → a < 64 → (bit m y ≡ true → y < 64) → bit (bitAnd m (18446744073709551615 - 2 ^ a)) y ≡ (bit m y && not (eqb y a))
 bit-clear m a y ha hy =
-    ap (λ (k : ℕ). bit (bitAnd m k) y) (minus-is-xor (2 ^ a) (pow-below a 64 ha))
-    ∙ bit-and m (bitXor 18446744073709551615 (2 ^ a)) y
-    ∙ clear-case (bit m y) (bit (bitXor 18446744073709551615 (2 ^ a)) y) (not (eqb y a))
-    (λ e. bit-xor 18446744073709551615 (2 ^ a) y (bit-ones y (hy e)) ∙ ap not (bit-pow a y ∙ eqb-comm a y))
+    bit-and-not m (2 ^ a) y (pow-below a 64 ha) hy ∙ ap (λ (c : Bool). bit m y && not c) (bit-pow a y ∙ eqb-comm a y)
+
+-- a number of 64 bits has no bit past them
+past-bits : (m y : ℕ) → m < 2 ^ 64 → 64 ≤ y → bit m y ≡ false
+unfolding bit
+past-bits m y l k = ap (λ (n : ℕ). eqb (n % 2) 1) (div-eq-of-lt (omega (arith, l, pow-mono k)))
+
+pub bit-below : (m y : ℕ) → m < 2 ^ 64 → bit m y ≡ true → y < 64
+bit-below m y l h = ⊎-elim (λ k. k) (λ k. absurd (both-ways (bit m y) (past-bits m y l k) h)) (cases-lt y 64)
+
+-- a mask with one number more is larger
+pub or-more : (n x : ℕ) → bit n x ≡ false → n < bitOr n (2 ^ x)
+or-more n x h =
+    let le : n ≤ bitOr n (2 ^ x) = omega (arith, or-add-and n (2 ^ x), and-le-r n (2 ^ x)) in
+    let has : bit (bitOr n (2 ^ x)) x ≡ true = bit-or n (2 ^ x) x ∙ or-right (bit n x) (bit (2 ^ x) x) (bit-pow x x ∙ eq-eqb x x refl) in
+    let differ : n ≡ bitOr n (2 ^ x) → ⊥ = λ e. both-ways (bit n x) h (ap (λ (k : ℕ). bit k x) e ∙ has) in
+    omega arith
+
+-- the lowest bit is set
+bit-half : (n t : ℕ) → bit n (suc t) ≡ bit (n / 2) t
+unfolding bit
+bit-half n t = ap (λ (k : ℕ). eqb (k % 2) 1) (ap (λ (k : ℕ). n / 2 ^ k) (sym (one-add t)) ∙ sym (shr-shr n 1 t))
+
+bit-first : (n : ℕ) → n % 2 ≡ 1 → bit n 0 ≡ true
+unfolding bit
+bit-first n h = ap (λ (k : ℕ). eqb (k % 2) 1) (div-one n) ∙ eq-eqb (n % 2) 1 h
+
+lowest-by : (k n t d : ℕ) → n % 2 ≡ d → d < 2 → 0 < n → (0 < n / 2 → (t < k) × (bit (n / 2) t ≡ true)) → (under d t < suc k) × (bit n (under d t) ≡ true)
+lowest-by k n t zero e l p rest = let r = rest (omega arith) in (omega (arith, r .0), bit-half n t ∙ r .1)
+lowest-by k n t (suc zero) e l p rest = (omega arith, bit-first n e)
+lowest-by k n t (suc (suc d)) e l p rest = not-digit d l
+
+pub lowest-set : (k n : ℕ) → 0 < n → n < 2 ^ k → (trailingZeros k n < k) × (bit n (trailingZeros k n) ≡ true)
+unfolding trailingZeros
+lowest-set zero n p l = let z : ⊥ = omega arith in absurd z
+lowest-set (suc k) n p l = lowest-by k n (trailingZeros k (n / 2)) (n % 2) refl (low n) p
+    (λ q. lowest-set k (n / 2) q (shr-below n k 1 (subst (λ (j : ℕ). n < 2 ^ j) (sym (add-one k)) l)))

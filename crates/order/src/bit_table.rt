@@ -87,4 +87,8 @@ pub impl Keeper for BitTable as BitTableKeeper {
             prune(&mut self.rows, a);
         }
     }
+
+    fn copied(&self) -> BitTable {
+        BitTable { rows: self.rows }
+    }
 }

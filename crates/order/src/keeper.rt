@@ -52,4 +52,20 @@ pub trait Keeper: Sized + Drop {
     /// Takes the step `a` out of the order. Every pair of other steps stays, also one that ran through `a`.
     fn drop_step(&mut self, a: u8)
         ensures { λ _. ⌜ before (now (self .exit)) ≡ dropped (before (now (self .entry))) a ⌝ };
+
+    /// A keeper of the same order.
+    fn copied(&self) -> Self
+        ensures { λ r. ⌜ before r ≡ before (now (self .entry)) ⌝ }
+    {
+        let steps = u16::from(Self::steps());
+        let mut copy = Self::new();
+        for place in 0..steps * steps {
+            let a = (place / steps) as u8;
+            let b = (place % steps) as u8;
+            if self.before(a, b) {
+                let _ = copy.put(a, b);
+            }
+        }
+        copy
+    }
 }

@@ -6,6 +6,7 @@
 mod bit_table;
 mod keeper;
 mod masks;
+mod pair_list;
 
 pub use bit_table::BitTable;
 pub use bit_table::BitTableKeeper;
@@ -13,3 +14,5 @@ pub use keeper::Keeper;
 pub use keeper::Refused;
 pub use keeper::RefusedDebug;
 pub use keeper::RefusedPartialEq;
+pub use pair_list::PairList;
+pub use pair_list::PairListKeeper;
