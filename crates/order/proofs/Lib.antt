@@ -1,0 +1,11 @@
+pub mod Bits
+pub mod Rows
+pub mod Ordered
+pub mod Tables
+pub mod Copies
+pub mod Lists
+pub mod Reached
+pub mod Pigeons
+pub mod Room
+pub mod Pushes
+pub mod Drops

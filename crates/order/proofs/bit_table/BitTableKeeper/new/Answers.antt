@@ -1,0 +1,13 @@
+use mathlib.Core.Path.{subst, sym}
+use lib.ListN.{replicate}
+use Rattle.order.specs.Puts.{Order}
+use Rattle.order.proofs.Ordered.{order-nothing}
+use Rattle.order.proofs.Tables.{table-nothing}
+use Rattle.order.proofs.bit_table.BitTableKeeper.new.Needs as need
+use Rattle.semantics.specs.Orders.{Relation}
+
+pub ghost-result : need.ghost-result
+ghost-result c = (∣ subst (λ (R : Relation). Order 64 R) (sym table-nothing) (order-nothing 64) ∣₁, tt)
+
+pub returns : need.returns
+returns c = table-nothing

@@ -1,0 +1,18 @@
+//! Orders between step numbers, and what keeps one.
+//!
+//! A keeper holds a strict order: which steps are before which. Everything above is written over the trait `Keeper`, once for
+//! every keeper. `BitTable` has a bit for each pair of 64 steps, `PairList` a list of pairs of 32 steps from which the others
+//! follow.
+mod bit_table;
+mod keeper;
+mod masks;
+mod pair_list;
+
+pub use bit_table::BitTable;
+pub use bit_table::BitTableKeeper;
+pub use keeper::Keeper;
+pub use keeper::Refused;
+pub use keeper::RefusedDebug;
+pub use keeper::RefusedPartialEq;
+pub use pair_list::PairList;
+pub use pair_list::PairListKeeper;
