@@ -14,7 +14,7 @@ use Rattle.order.specs.Stored.{closure, leads, Stored}
 use Rattle.order.proofs.Ordered.{Free, is-false, order-nothing, order-prop, order-put}
 use Rattle.semantics.specs.Closures.{And, chain, Chained, Listed, pair, Pairs}
 use Rattle.semantics.specs.Orders.{Holds, put, Relation, Transitive}
-use Rattle.semantics.specs.Rules.{put-all}
+use Rattle.semantics.specs.Closures.{put-all}
 use Rattle.semantics.proofs.Closures.{chained-into, chained-put, chained-same, Joined}
 
 -- pairs put one after the other: the smallest transitive relation with them all

@@ -7,7 +7,7 @@ use lib.Dec.{eqb}
 use lib.ListN.{getD, length, take}
 use Rattle.order.specs.Puts.{can-put, nothing, Order}
 use Rattle.semantics.specs.Orders.{put, Relation}
-use Rattle.semantics.specs.Rules.{put-all}
+use Rattle.semantics.specs.Closures.{put-all}
 
 -- what follows from the pairs
 unfoldable pub closure : List (ℕ × ℕ) → Relation

@@ -37,3 +37,8 @@ abbrev pub try-all : Option Relation → List (ℕ × ℕ) → Option Relation
 try-all None ps = None
 try-all (Some R) [] = Some R
 try-all (Some R) (ab ∷ abs) = try-all (try-put R (ab .0) (ab .1) (eqb (ab .0) (ab .1) || R (ab .1) (ab .0))) abs
+
+-- pairs put one by one, whatever they close
+abbrev pub put-all : Relation → List (ℕ × ℕ) → Relation
+put-all R [] = R
+put-all R (ab ∷ abs) = put-all (put R (ab .0) (ab .1)) abs
