@@ -1,1 +1,2 @@
 mod Downs
+mod Ups

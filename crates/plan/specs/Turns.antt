@@ -1,11 +1,17 @@
 -- One turn of a loop over links: what it makes of the found so far.
-use mathlib.Core.Bool.{cond, _&&_}
+use mathlib.Core.Bool.{Bool, cond, not, _&&_}
 use Prim.Native.Nat.{ℕ}
 use lib.Dec.{eqb}
+use Rattle.std.specs.Finite.{nth}
 use Rattle.std.specs.declared.option.Option.{Option}
-use Rattle.semantics.specs.PlanLines.{lower-of, lowest-with, threatens}
+use Rattle.std.specs.declared.option.Option.the-variants.{None, Some}
+use lib.ListN.{length}
+use Rattle.semantics.specs.Causes.{first-such, is-some}
+use Rattle.semantics.specs.Decomposing.{upfrom}
+use Rattle.semantics.specs.PlanLines.{lower-of, lowest-with, producer, threatens}
 use Rattle.semantics.specs.Plans as planned
-use Rattle.semantics.specs.Tasks.{Task}
+use Rattle.semantics.specs.Plans.{at-task}
+use Rattle.semantics.specs.Tasks.{Task, is-primitive, needs-of}
 use Rattle.semantics.specs.declared.link.Link.{Link}
 use mathlib.Core.List.{List}
 
@@ -16,3 +22,37 @@ nearer s j l found = cond (eqb (l .consumer) s && eqb (l .need) j) (lower-of (l 
 -- the lower of a link and the one found, where step s threatens it
 abbrev pub nearer-threatened : List Task → planned.Plan → ℕ → Link → Option Link → Option Link
 nearer-threatened ts p s l found = lowest-with (threatens ts p s l) l found
+
+-- what is found at a step that is present
+abbrev pub if-present : {Y : Type 0} → Option (Option ℕ) → Option Y → Option Y
+if-present None found = None
+if-present (Some None) found = None
+if-present (Some (Some t)) found = found
+
+abbrev pub at-step : {Y : Type 0} → List (Option ℕ) → (ℕ → Option Y) → ℕ → Option Y
+at-step os find s = if-present (nth os s) (find s)
+
+-- whether step s is not primitive, among these steps
+abbrev pub is-compound : List Task → List (Option ℕ) → ℕ → Bool
+is-compound ts os s = not (is-primitive (at-task ts (nth os s)))
+
+-- a step that is compound
+abbrev pub compound : List Task → List (Option ℕ) → ℕ → Option ℕ
+compound ts os s = cond (is-compound ts os s) (Some s) None
+
+-- whether no link goes to need j of step s
+abbrev pub no-producer : List Link → ℕ → ℕ → Bool
+no-producer ls s j = not (is-some (producer ls s j))
+
+-- the lowest of `count` needs of step s that no link goes to
+abbrev pub unlinked : List Link → ℕ → ℕ → Option ℕ
+unlinked ls count s = first-such (no-producer ls s) (upfrom 0 count)
+
+-- a step with its lowest need that no link goes to
+abbrev pub unlinked-of : List Task → List (Option ℕ) → List Link → ℕ → Option ℕ
+unlinked-of ts os ls s = unlinked ls (length (needs-of (at-task ts (nth os s)))) s
+
+-- a number with what is found for it
+abbrev pub paired : {Y : Type 0} → ℕ → Option Y → Option (ℕ × Y)
+paired s None = None
+paired s (Some y) = Some (s, y)
