@@ -67,4 +67,11 @@ impl Task {
     {
         self.deletes.mask()
     }
+
+    /// Whether the task deletes this fact.
+    pub fn deletes(&self, fact: u8) -> bool
+        ensures { λ r. ⌜ r ≡ among fact (task (now (self .entry)) .deletes) ⌝ }
+    {
+        self.deletes.has(fact)
+    }
 }

@@ -48,6 +48,16 @@ impl FactList {
         self.mask
     }
 
+    /// Whether the fact is in the list.
+    pub fn has(&self, fact: u8) -> bool
+        ensures { λ r. ⌜ r ≡ among fact (facts (now (self .entry))) ⌝ }
+    {
+        if fact >= 64 {
+            return false;
+        }
+        (self.mask >> fact) % 2 == 1
+    }
+
     /// Ends the list with a fact and answers its label. A full list answers `None`, and stays as it is.
     pub(super) fn push(&mut self, fact: u8) -> Option<u8>
         requires { ⌜ fact < 64 ⌝ }

@@ -17,6 +17,7 @@ use Rattle.semantics.specs.PlanLines.{producer}
 use Rattle.semantics.specs.declared.link.Link.{Link}
 use Rattle.semantics.specs.Decomposing.{upfrom}
 use Rattle.semantics.specs.Plans.{present-from}
+use Rattle.semantics.specs.OpenLines.{is-step, there}
 use Rattle.plan.specs.Turns.{if-present, at-step, paired, no-producer, unlinked}
 
 -- the first of two finds
@@ -104,7 +105,7 @@ unlinked-here ls s n j o l e h q =
     below-here (first-such (no-producer ls s)) (λ x. cond (no-producer ls s x) (Some x) None) (seeks-such (no-producer ls s)) n j j l (ap (λ b. cond b (Some j) None) (none-there o (producer ls s j) e h)) q
 
 pub unlinked-on : (ls : List Link) (s n j : ℕ) (o : Option ℕ) → j < n → o ≡ producer ls s j → isSome o ≡ true → Below (first-such (no-producer ls s)) n j ≡ Below (first-such (no-producer ls s)) n 0
-  → Below (first-such (no-producer ls s)) n (j + 1) ≡ Below (first-such (no-producer ls s)) n 0
+    → Below (first-such (no-producer ls s)) n (j + 1) ≡ Below (first-such (no-producer ls s)) n 0
 unlinked-on ls s n j o l e h q =
     below-on (first-such (no-producer ls s)) (λ x. cond (no-producer ls s x) (Some x) None) (seeks-such (no-producer ls s)) n j l (ap (λ b. cond b (Some j) None) (some-there o (producer ls s j) e h)) q
 
@@ -121,3 +122,25 @@ module _ {Y : Type 0} (find : ℕ → Option Y) (os : List (Option ℕ)) where
 
   pub found-end : (i : ℕ) → length os ≤ i → From (first-found find) os i ≡ From (first-found find) os 0 → None ≡ first-found find (present-from 0 os)
   found-end i h q = seek-end (first-found find) (λ x. paired x (find x)) (seeks-found find) os i h q
+
+-- how many steps are present from step i on
+abbrev pub Count : List (Option ℕ) → ℕ → ℕ
+Count os i = length (present-from i (drop i os))
+
+count-one : (os : List (Option ℕ)) (i : ℕ) → i < length os → Count os i ≡ cond (is-step os i) 1 0 + Count os (i + 1)
+count-one os i h =
+    let e : Count os i ≡ length (present-from i (getD os i None ∷ drop (i + 1) os)) = at-drop-more (λ xs. length (present-from i xs)) os i None h in
+    e ∙ at (getD os i None) (drop (i + 1) os) ∙ ap (λ o. cond (there o) 1 0 + Count os (i + 1)) (sym (nth-getD os i h))
+  where
+    at : (o : Option ℕ) (rest : List (Option ℕ)) → length (present-from i (o ∷ rest)) ≡ cond (there (Some o)) 1 0 + length (present-from (i + 1) rest)
+    at None rest = ap (λ k. length (present-from k rest)) (sym (add-one i)) ∙ sym (zero-add _)
+    at (Some t) rest = ap (λ k. suc (length (present-from k rest))) (sym (add-one i)) ∙ (let z : suc (length (present-from (i + 1) rest)) ≡ 1 + length (present-from (i + 1) rest) = omega arith in z)
+
+pub count-present : (os : List (Option ℕ)) (i : ℕ) → i < length os → is-step os i ≡ true → Count os i ≡ 1 + Count os (i + 1)
+count-present os i h e = count-one os i h ∙ ap (λ b. cond b 1 0 + Count os (i + 1)) e
+
+pub count-absent : (os : List (Option ℕ)) (i : ℕ) → i < length os → is-step os i ≡ false → Count os i ≡ Count os (i + 1)
+count-absent os i h e = count-one os i h ∙ ap (λ b. cond b 1 0 + Count os (i + 1)) e ∙ zero-add _
+
+pub count-end : (os : List (Option ℕ)) (i : ℕ) → length os ≤ i → Count os i ≡ 0
+count-end os i h = at-drop-all (λ xs. length (present-from i xs)) os i h

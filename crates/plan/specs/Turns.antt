@@ -8,7 +8,7 @@ use Rattle.std.specs.declared.option.Option.the-variants.{None, Some}
 use lib.ListN.{length}
 use Rattle.semantics.specs.Causes.{first-such, is-some}
 use Rattle.semantics.specs.Decomposing.{upfrom}
-use Rattle.semantics.specs.PlanLines.{lower-of, lowest-with, producer, threatens}
+use Rattle.semantics.specs.PlanLines.{lower-of, lowest-link, lowest-with, producer, threatens}
 use Rattle.semantics.specs.Plans as planned
 use Rattle.semantics.specs.Plans.{at-task}
 use Rattle.semantics.specs.Tasks.{Task, is-primitive, needs-of}
@@ -56,3 +56,7 @@ unlinked-of ts os ls s = unlinked ls (length (needs-of (at-task ts (nth os s))))
 abbrev pub paired : {Y : Type 0} → ℕ → Option Y → Option (ℕ × Y)
 paired s None = None
 paired s (Some y) = Some (s, y)
+
+-- the lowest link that step s threatens
+abbrev pub threatened : List Task → planned.Plan → ℕ → Option Link
+threatened ts p s = lowest-link (threatens ts p s) (p .links)

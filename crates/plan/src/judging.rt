@@ -6,10 +6,12 @@ ghost use Rattle.domain.specs.Meaning.{tasks};
 ghost use Rattle.fixed.specs.Items.{items};
 ghost use Rattle.page.specs.Answers.{row};
 ghost use Rattle.semantics.specs.Causes.{first-found, first-of, first-such};
-ghost use Rattle.semantics.specs.PlanLines.{judge-causes, lowest-link, threatens};
-ghost use Rattle.semantics.specs.Plans.{present-from, steps-of};
+ghost use Rattle.semantics.specs.PlanLines.{judge-causes, lower, lowest-link, threatens};
+ghost use Rattle.semantics.specs.Tasks.{adds-of};
+ghost use Rattle.std.specs.Finite.{nth};
+ghost use Rattle.semantics.specs.Plans.{at-task, present-from, steps-of};
 ghost use Rattle.plan.specs.Meaning.{plan};
-ghost use Rattle.plan.specs.Turns.{at-step, compound, is-compound, nearer-threatened, paired, unlinked, unlinked-of};
+ghost use Rattle.plan.specs.Turns.{at-step, compound, is-compound, nearer-threatened, paired, threatened, unlinked, unlinked-of};
 use crate::Plan;
 use domain::Tasks;
 use order::Keeper;
@@ -72,4 +74,122 @@ impl Plan {
         }
         None
     }
+
+    /// The fact that a link protects, by its producer.
+    fn fact_of(&self, known: &Tasks, link: Link) -> Option<u8>
+        ensures { λ r. ⌜ r ≡ nth (adds-of (at-task (tasks (now (known .entry))) (nth (items (now (self .entry) .steps)) (link .producer)))) (link .add) ⌝ }
+    {
+        self.task(known, link.producer)?.add(link.add)
+    }
+
+    /// Whether step `s` threatens the link.
+    fn is_threat<K: Keeper>(&self, keeper: &K, known: &Tasks, s: u8, link: Link) -> bool
+        ensures { λ r. ⌜ r ≡ threatens (tasks (now (known .entry))) (plan (K·Keeper .before (now (keeper .entry))) (now (self .entry))) s link ⌝ }
+    {
+        let Some(fact) = self.fact_of(known, link) else {
+            return false;
+        };
+        let Some(task) = self.task(known, s) else {
+            return false;
+        };
+        task.deletes(fact)
+            && (s != link.producer
+                && (s != link.consumer
+                    && (!keeper.before(s, link.producer) && !keeper.before(link.consumer, s))))
+    }
+
+    /// The lower of the link found so far and this one, by producer and then by consumer, if step `s` threatens this one.
+    fn with_threatened<K: Keeper>(
+        &self,
+        keeper: &K,
+        known: &Tasks,
+        s: u8,
+        link: Link,
+        found: Option<Link>,
+    ) -> Option<Link>
+        ensures { λ r. ⌜ r ≡ nearer-threatened (tasks (now (known .entry))) (plan (K·Keeper .before (now (keeper .entry))) (now (self .entry))) s link found ⌝ }
+    {
+        if !self.is_threat(keeper, known, s, link) {
+            return found;
+        }
+        match found {
+            Some(other) if lower(other, link) => Some(other),
+            _ => Some(link),
+        }
+    }
+
+    /// The lowest link that step `s` threatens.
+    fn lowest_threatened<K: Keeper>(&self, keeper: &K, known: &Tasks, s: u8) -> Option<Link>
+        ensures { λ r. ⌜ r ≡ lowest-link (threatens (tasks (now (known .entry))) (plan (K·Keeper .before (now (keeper .entry))) (now (self .entry))) s) (items (now (self .entry) .links)) ⌝ }
+    {
+        let links = self.links.as_slice();
+        let mut found = None;
+        for i in (0..links.len()).rev() {
+            found = self.with_threatened(keeper, known, s, links[i], found);
+        }
+        found
+    }
+
+    /// The step, if it is present and threatens a link, and the lowest such link.
+    fn threat_at<K: Keeper>(&self, keeper: &K, known: &Tasks, s: u8) -> Option<(u8, Link)>
+        ensures { λ r. ⌜ r ≡ at-step (items (now (self .entry) .steps)) (λ x. paired x (threatened (tasks (now (known .entry))) (plan (K·Keeper .before (now (keeper .entry))) (now (self .entry))) x)) s ⌝ }
+    {
+        self.task_number(s)?;
+        let link = self.lowest_threatened(keeper, known, s)?;
+        Some((s, link))
+    }
+
+    /// The lowest step that threatens a link, and the lowest link that it threatens.
+    fn first_threat<K: Keeper>(&self, keeper: &K, known: &Tasks) -> Option<(u8, Link)>
+        ensures { λ r. ⌜ r ≡ first-found (threatened (tasks (now (known .entry))) (plan (K·Keeper .before (now (keeper .entry))) (now (self .entry)))) (present-from 0 (items (now (self .entry) .steps))) ⌝ }
+    {
+        for s in 0..self.given() {
+            if let Some(found) = self.threat_at(keeper, known, s) {
+                return Some(found);
+            }
+        }
+        None
+    }
+
+    /// How many steps are present.
+    fn count_steps(&self) -> u8
+        ensures value { λ r. ⌜ r ≡ length (present-from 0 (items (now (self .entry) .steps))) ⌝ }
+    {
+        let mut count = 0;
+        for s in 0..self.given() {
+            if self.is_step(s) {
+                count += 1;
+            }
+        }
+        count
+    }
+
+    /// Judges the plan: accepted with the count of its steps, or the first criterion that fails and its lowest spot.
+    pub fn judge<K: Keeper>(&self, keeper: &K, known: &Tasks) -> Answer
+        ensures { λ r. ⌜ row r ≡ first-of (judge-causes (tasks (now (known .entry))) (plan (K·Keeper .before (now (keeper .entry))) (now (self .entry)))) (length (steps-of (plan (K·Keeper .before (now (keeper .entry))) (now (self .entry))))) ⌝ }
+    {
+        if let Some(step) = self.first_compound(known) {
+            return Answer::CompoundStep { step };
+        }
+        if let Some((step, label)) = self.first_open(known) {
+            return Answer::OpenNeed { step, label };
+        }
+        match self.first_threat(keeper, known) {
+            Some((threat, link)) => Answer::Threatened {
+                threat,
+                producer: link.producer,
+                consumer: link.consumer,
+            },
+            None => Answer::Accepted {
+                number: self.count_steps() as u64,
+            },
+        }
+    }
+}
+
+/// Whether a link is lower than another, by producer and then by consumer.
+fn lower(a: Link, b: Link) -> bool
+    ensures { λ r. ⌜ r ≡ lower a b ⌝ }
+{
+    (a.producer < b.producer) | ((a.producer == b.producer) & (a.consumer < b.consumer))
 }
