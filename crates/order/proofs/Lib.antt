@@ -9,3 +9,4 @@ pub mod Pigeons
 pub mod Room
 pub mod Pushes
 pub mod Drops
+pub mod Tries

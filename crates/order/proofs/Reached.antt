@@ -1,5 +1,5 @@
 -- A search along the pairs: what is seen, and what is followed.
-use mathlib.Core.Bool.{_&&_, Bool, false, not, true, _||_}
+use mathlib.Core.Bool.{_&&_, Bool, cond, false, not, true, _||_}
 use mathlib.Core.List.{[], List, _++_, _∷_}
 use mathlib.Core.Logic.{inl, inr, _⊎_, ⊎-elim}
 use mathlib.Core.Path.{_∙_, ap, refl, subst, sym, _≡_}
@@ -8,7 +8,6 @@ use native.Mathlib.Omega.{arith}
 use lib.Bits.{bitAnd, bitOr}
 use lib.Dec.{eqb}
 use Rattle.std.proofs.shelf.Tests.{both-ways, eq-eqb, eqb-true, or-cases, or-left, or-right}
-use Rattle.std.proofs.shelf.Ways.{tells}
 use Rattle.order.specs.Marks.{bit}
 use Rattle.order.specs.Stored.{closure, leads}
 use Rattle.order.proofs.Bits.{bit-and-not, bit-below, bit-or, bit-pow, bit-zero}
@@ -26,14 +25,14 @@ pub targets-none : (x y : ℕ) → bit 0 y ≡ leads [] x y
 unfolding leads
 targets-none x y = bit-zero y
 
-pub targets-add : (ps : List (ℕ × ℕ)) (p : ℕ × ℕ) (m x : ℕ) → ((y : ℕ) → bit m y ≡ leads ps x y) → p .0 ≡ x
-    → (y : ℕ) → bit (bitOr m (2 ^ p .1)) y ≡ leads (ps ++ p ∷ []) x y
-targets-add ps p m x is e y =
-    let k = leads-push ps p x y in let b = bit-or m (2 ^ p .1) y in let o = bit-pow (p .1) y in let h = is y in let t = eq-eqb (p .0) x e in grind arith
+bit-cond : (t : Bool) (m p y : ℕ) → bit (cond t (bitOr m (2 ^ p)) m) y ≡ (bit m y || (t && eqb p y))
+bit-cond true m p y = bit-or m (2 ^ p) y ∙ ap (λ (c : Bool). bit m y || c) (bit-pow p y)
+bit-cond false m p y = grind arith
 
-pub targets-skip : (ps : List (ℕ × ℕ)) (p : ℕ × ℕ) (m x : ℕ) → ((y : ℕ) → bit m y ≡ leads ps x y) → (p .0 ≡ x → ⊥)
-    → (y : ℕ) → bit m y ≡ leads (ps ++ p ∷ []) x y
-targets-skip ps p m x is ne y = let k = leads-push ps p x y in let h = is y in grind (arith, tells)
+pub targets-more : (ps : List (ℕ × ℕ)) (p : ℕ × ℕ) (m n x : ℕ) → ((y : ℕ) → bit m y ≡ leads ps x y) → n ≡ cond (eqb (p .0) x) (bitOr m (2 ^ p .1)) m
+    → (y : ℕ) → bit n y ≡ leads (ps ++ p ∷ []) x y
+targets-more ps p m n x is e y =
+    ap (λ (k : ℕ). bit k y) e ∙ bit-cond (eqb (p .0) x) m (p .1) y ∙ ap (λ (c : Bool). c || (eqb (p .0) x && eqb (p .1) y)) (is y) ∙ sym (leads-push ps p x y)
 
 -- a is seen, what is seen is a or after a, and the targets of what is followed are seen
 pub record Reaching (ps : List (ℕ × ℕ)) (a seen followed : ℕ) : Type 0 where

@@ -1,3 +1,4 @@
 pub mod Puts
 pub mod Marks
 pub mod Stored
+pub mod Operations

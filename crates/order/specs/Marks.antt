@@ -1,9 +1,9 @@
 -- Masks of step numbers, and a table of them as a relation.
-use mathlib.Core.Bool.{Bool, cond, _||_}
+use mathlib.Core.Bool.{_&&_, Bool, cond, _||_}
 use mathlib.Core.List.{List}
 use Prim.Native.Nat.{ℕ, _-_, _/_, _%_, _^_}
 use lib.Bits.{bitAnd, bitOr}
-use lib.Dec.{eqb}
+use lib.Dec.{eqb, ltb}
 use lib.ListN.{getD}
 use Rattle.semantics.specs.Orders.{Relation}
 
@@ -11,14 +11,14 @@ use Rattle.semantics.specs.Orders.{Relation}
 unfoldable pub bit : ℕ → ℕ → Bool
 bit m y = eqb (m / 2 ^ y % 2) 1
 
--- x is before y where row x has y
-unfoldable pub marks : List ℕ → Relation
-marks rows x y = bit (getD rows x 0) y
+-- x is before y where both are below 64 and row x has y
+abbrev pub marks : List ℕ → Relation
+marks rows x y = (ltb x 64 && ltb y 64) && bit (getD rows x 0) y
 
 -- row x, joined with `after` where x is a or before a
-unfoldable pub grown : ℕ → ℕ → ℕ → ℕ → ℕ
+abbrev pub grown : ℕ → ℕ → ℕ → ℕ → ℕ
 grown a after x row = cond (eqb x a || bit row a) (bitOr row after) row
 
 -- row x without a, and empty where x is a
-unfoldable pub pruned : ℕ → ℕ → ℕ → ℕ
+abbrev pub pruned : ℕ → ℕ → ℕ → ℕ
 pruned a x row = cond (eqb x a) 0 (bitAnd row (2 ^ 64 - 1 - 2 ^ a))

@@ -23,3 +23,8 @@ pub record Order (n : ℕ) (R : Relation) : Type 0 where
 abbrev pub put-each : ℕ → Relation → List (ℕ × ℕ) → Bool × Relation
 put-each n R [] = (true, R)
 put-each n R (ab ∷ abs) = cond (can-put n R (ab .0) (ab .1)) (put-each n (put R (ab .0) (ab .1)) abs) (false, R)
+
+-- all numbers of the pairs are below n
+abbrev pub Low : ℕ → List (ℕ × ℕ) → Type 0
+Low n [] = Unit {0}
+Low n (ab ∷ abs) = (ab .0 < n) × (ab .1 < n) × Low n abs

@@ -6,7 +6,9 @@
 mod bit_table;
 mod keeper;
 mod masks;
+mod operation;
 mod pair_list;
+mod putting;
 
 pub use bit_table::BitTable;
 pub use bit_table::BitTableKeeper;
@@ -14,5 +16,11 @@ pub use keeper::Keeper;
 pub use keeper::Refused;
 pub use keeper::RefusedDebug;
 pub use keeper::RefusedPartialEq;
+pub use operation::Operation;
+pub use operation::OperationDebug;
+pub use operation::OperationPartialEq;
+pub use operation::agree;
+pub use operation::apply;
 pub use pair_list::PairList;
 pub use pair_list::PairListKeeper;
+pub use putting::put_all;

@@ -1,7 +1,8 @@
 //! A keeper of 32 steps: a list of pairs, from which the others follow.
 ghost use mathlib.Core.Bool.{_&&_, cond, false, not, _||_};
 ghost use mathlib.Core.Path.{_≡_};
-ghost use Prim.Native.Nat.{_<_, _≤_, ℕ};
+ghost use Prim.Native.Nat.{_<_, _^_, _≤_, ℕ};
+ghost use lib.Bits.{bitOr};
 ghost use lib.Dec.{eqb};
 ghost use lib.ListN.{getD, length, take};
 ghost use Rattle.order.specs.Marks.{bit};
@@ -24,6 +25,19 @@ pub struct PairList {
     ghost room: { count ≤ 496 },
 }
 
+/// The mask with the later step of the pair, if its earlier step is `a`.
+fn with_target(found: u64, pair: (u8, u8), a: u8) -> u64
+    requires { ⌜ pair .1 < 64 ⌝ }
+    ensures { λ r. ⌜ r ≡ cond (eqb (pair .0) a) (bitOr found (2 ^ pair .1)) found ⌝ }
+{
+    let (earlier, later) = pair;
+    if earlier == a {
+        found | only(later)
+    } else {
+        found
+    }
+}
+
 /// The steps that a stored pair leads to from `a`, as a mask.
 fn targets(pairs: &[(u8, u8); 496], count: usize, a: u8) -> u64
     requires { ⌜ count ≤ 496 ⌝ ∗ ⌜ Small (now pairs) count ⌝ }
@@ -31,10 +45,7 @@ fn targets(pairs: &[(u8, u8); 496], count: usize, a: u8) -> u64
 {
     let mut found = 0;
     for i in 0..count {
-        let (x, y) = pairs[i];
-        if x == a {
-            found |= only(y);
-        }
+        found = with_target(found, pairs[i], a);
     }
     found
 }
