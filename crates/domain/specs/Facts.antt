@@ -1,15 +1,11 @@
--- Facts in a list, and as bits.
-use mathlib.Core.Bool.{Bool, cond}
+-- Facts in a list.
+use mathlib.Core.Bool.{cond}
 use mathlib.Core.List.{List}
-use Prim.Native.Nat.{ℕ, _/_, _%_, _^_}
-use lib.Dec.{eqb, leb}
+use Prim.Native.Nat.{ℕ}
+use lib.Dec.{leb}
 use lib.ListN.{length}
 use Rattle.std.specs.declared.option.Option.{Option}
 use Rattle.std.specs.declared.option.Option.the-variants.{Some, None}
-
--- the bit of n at place y
-unfoldable pub bit : ℕ → ℕ → Bool
-bit n y = eqb (n / 2 ^ y % 2) 1
 
 -- the label of one more fact, in a list of at most 32
 abbrev pub label-of-next : List ℕ → Option ℕ

@@ -6,7 +6,7 @@ ghost use lib.ListN.{length};
 ghost use Rattle.std.specs.Finite.{nth};
 ghost use Rattle.std.specs.Options.{isSome};
 ghost use Rattle.semantics.specs.Facts.{among};
-ghost use Rattle.domain.specs.Facts.{bit};
+ghost use Rattle.masks.specs.Bits.{bit};
 ghost use Rattle.domain.specs.Meaning.{task};
 use crate::Kind;
 use crate::Task;

@@ -6,10 +6,13 @@ ghost use lib.ListN.{length};
 ghost use Rattle.std.specs.Finite.{nth};
 ghost use Rattle.std.specs.Options.{isSome};
 ghost use Rattle.semantics.specs.Facts.{among};
-ghost use Rattle.domain.specs.Facts.{bit, label-of-next};
+ghost use Rattle.domain.specs.Facts.{label-of-next};
+ghost use Rattle.masks.specs.Bits.{bit};
 ghost use Rattle.domain.specs.Meaning.{facts};
 use crate::FactList;
 use fixed::Fixed;
+use masks::marked;
+use masks::only;
 
 /// A list has at most this many facts.
 const MOST_FACTS: usize = 32;
@@ -52,10 +55,7 @@ impl FactList {
     pub fn has(&self, fact: u8) -> bool
         ensures { λ r. ⌜ r ≡ among fact (facts (now (self .entry))) ⌝ }
     {
-        if fact >= 64 {
-            return false;
-        }
-        (self.mask >> fact) % 2 == 1
+        fact < 64 && marked(self.mask, fact)
     }
 
     /// Ends the list with a fact and answers its label. A full list answers `None`, and stays as it is.
@@ -69,7 +69,7 @@ impl FactList {
             return None;
         }
         let _ = self.list.push(fact);
-        self.mask |= 1u64 << fact;
+        self.mask |= only(fact);
         Some(label as u8)
     }
 }

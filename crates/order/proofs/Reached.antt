@@ -8,9 +8,9 @@ use native.Mathlib.Omega.{arith}
 use lib.Bits.{bitAnd, bitOr}
 use lib.Dec.{eqb}
 use Rattle.std.proofs.shelf.Tests.{both-ways, eq-eqb, eqb-true, or-cases, or-left, or-right}
-use Rattle.order.specs.Marks.{bit}
+use Rattle.masks.specs.Bits.{bit}
 use Rattle.order.specs.Stored.{closure, leads}
-use Rattle.order.proofs.Bits.{bit-and-not, bit-below, bit-or, bit-pow, bit-zero}
+use Rattle.masks.proofs.Bits.{bit-and-not, bit-below, bit-or, bit-pow, bit-zero}
 use Rattle.order.proofs.Lists.{closure-has, closure-least, closure-transitive, leads-listed, listed-leads}
 use Rattle.semantics.specs.Closures.{Listed}
 use Rattle.semantics.specs.Orders.{Holds}

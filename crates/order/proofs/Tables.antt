@@ -11,9 +11,10 @@ use lib.ListN.{getD, replicate}
 use Rattle.std.proofs.shelf.Lists.{getD-replicate}
 use Rattle.std.proofs.shelf.Tests.{cases-lt, lt-ltb}
 use Rattle.std.proofs.shelf.Ways.{tells}
-use Rattle.order.specs.Marks.{bit, grown, marks, pruned}
+use Rattle.order.specs.Marks.{grown, marks, pruned}
+use Rattle.masks.specs.Bits.{bit}
 use Rattle.order.specs.Puts.{nothing, Order}
-use Rattle.order.proofs.Bits.{bit-clear, bit-or, bit-pow, bit-zero}
+use Rattle.masks.proofs.Bits.{bit-clear, bit-or, bit-pow, bit-zero}
 use Rattle.order.proofs.Ordered.{Free, is-false, order-dropped, order-put, same-relation}
 use Rattle.semantics.specs.Orders.{dropped, Holds, put, Relation}
 

@@ -1,15 +1,12 @@
 -- Masks of step numbers, and a table of them as a relation.
 use mathlib.Core.Bool.{_&&_, Bool, cond, _||_}
 use mathlib.Core.List.{List}
-use Prim.Native.Nat.{ℕ, _-_, _/_, _%_, _^_}
+use Prim.Native.Nat.{ℕ, _-_, _^_}
 use lib.Bits.{bitAnd, bitOr}
 use lib.Dec.{eqb, ltb}
 use lib.ListN.{getD}
+use Rattle.masks.specs.Bits.{bit}
 use Rattle.semantics.specs.Orders.{Relation}
-
--- whether the mask m has the number y
-unfoldable pub bit : ℕ → ℕ → Bool
-bit m y = eqb (m / 2 ^ y % 2) 1
 
 -- x is before y where both are below 64 and row x has y
 abbrev pub marks : List ℕ → Relation

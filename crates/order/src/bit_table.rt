@@ -7,8 +7,8 @@ ghost use Rattle.order.specs.Marks.{grown, marks, pruned};
 ghost use Rattle.order.specs.Puts.{can-put, Order};
 use crate::keeper::Keeper;
 use crate::keeper::Refused;
-use crate::masks::marked;
-use crate::masks::only;
+use masks::marked;
+use masks::only;
 
 /// The whole order: row `x` has a bit for each step that `x` is before.
 #[derive(Drop)]

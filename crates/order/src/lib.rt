@@ -5,7 +5,6 @@
 //! follow.
 mod bit_table;
 mod keeper;
-mod masks;
 mod operation;
 mod pair_list;
 mod putting;

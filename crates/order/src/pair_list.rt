@@ -5,14 +5,14 @@ ghost use Prim.Native.Nat.{_<_, _^_, _≤_, ℕ};
 ghost use lib.Bits.{bitOr};
 ghost use lib.Dec.{eqb};
 ghost use lib.ListN.{getD, length, take};
-ghost use Rattle.order.specs.Marks.{bit};
+ghost use Rattle.masks.specs.Bits.{bit};
 ghost use Rattle.order.specs.Puts.{can-put, nothing};
 ghost use Rattle.order.specs.Stored.{closure, leads, onward, others, put-or-not, put-some, Small, Stored, through};
 use crate::keeper::Keeper;
 use crate::keeper::Refused;
-use crate::masks::lowest;
-use crate::masks::marked;
-use crate::masks::only;
+use masks::lowest;
+use masks::marked;
+use masks::only;
 
 /// The first `count` pairs are stored, the earlier step of each first. A pair that follows from those before it is not stored,
 /// so that 496 places suffice.

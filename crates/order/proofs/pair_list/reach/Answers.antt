@@ -5,7 +5,7 @@ use lib.Bits.{bitOr}
 use lib.Dec.{lit<}
 use lib.ListN.{take}
 use Rattle.std.proofs.shelf.Bits.{or-lt}
-use Rattle.order.proofs.Bits.{or-more}
+use Rattle.masks.proofs.Bits.{or-more}
 use Rattle.order.proofs.Reached.{reached, Reaching, reaching-more, reaching-none, to-follow}
 use Rattle.order.proofs.pair_list.reach.Needs as need
 

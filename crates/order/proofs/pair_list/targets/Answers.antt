@@ -4,7 +4,7 @@ use Prim.Native.Nat.{_+_, ℕ}
 use native.Mathlib.Omega.{arith}
 use lib.ListN.{getD, take}
 use Rattle.std.proofs.shelf.Lists.{take-more}
-use Rattle.order.specs.Marks.{bit}
+use Rattle.masks.specs.Bits.{bit}
 use Rattle.order.specs.Stored.{leads}
 use Rattle.order.proofs.Reached.{targets-more, targets-none}
 use Rattle.order.proofs.pair_list.targets.Needs as need

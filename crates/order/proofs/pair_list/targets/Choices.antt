@@ -1,7 +1,7 @@
 use mathlib.Core.Path.{_≡_}
 use Prim.Native.Nat.{ℕ}
 use lib.ListN.{take}
-use Rattle.order.specs.Marks.{bit}
+use Rattle.masks.specs.Bits.{bit}
 use Rattle.order.specs.Stored.{leads}
 use Rattle.order.proofs.pair_list.targets.Given as given
 

@@ -1,7 +1,7 @@
 use mathlib.Core.Path.{sym, ap, _∙_}
 use native.Mathlib.Omega.{arith}
 use Rattle.semantics.specs.Facts.{among}
-use Rattle.domain.proofs.Bits.{bit-zero}
+use Rattle.masks.proofs.Bits.{bit-zero}
 use Rattle.domain.proofs.facts.FactList.new.Needs as need
 
 pub ghost-result : need.ghost-result

@@ -13,7 +13,7 @@ use lib.Bits.{bitAnd, bitOr, bitXor, and-le-r, or-add-and, and-shr, or-shr, xor-
 use Rattle.std.proofs.shelf.Bits.{pow-add, pow-below, pow-pos, shl-shr, shr-below, shr-shr}
 use Rattle.std.proofs.shelf.Tests.{both-ways, cases-lt, cases-order, eq-eqb, false≢true, ne-eqb, or-right}
 use Rattle.std.proofs.shelf.Ways.{tells}
-use Rattle.order.specs.Marks.{bit}
+use Rattle.masks.specs.Bits.{bit}
 
 not-digit : {A : Type 0} (x : ℕ) → suc (suc x) < 2 → A
 not-digit x h = let z : ⊥ = omega arith in absurd z

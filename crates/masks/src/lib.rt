@@ -1,9 +1,9 @@
-//! Masks: a number of 64 bits as a set of the step numbers below 64.
+//! Masks: a number of 64 bits as a set of the numbers below 64.
 ghost use mathlib.Core.Bool.{true};
 ghost use mathlib.Core.Path.{_≡_};
 ghost use lib.Count.{trailingZeros};
 ghost use Prim.Native.Nat.{_^_, _<_};
-ghost use Rattle.order.specs.Marks.{bit};
+ghost use Rattle.masks.specs.Bits.{bit};
 
 /// Whether the mask has `b`.
 pub fn marked(mask: u64, b: u8) -> bool

@@ -2,8 +2,8 @@ use mathlib.Core.Path.{ap}
 use Prim.Native.Nat.{_/_, _^_, ℕ}
 use lib.Bits.{and-mask}
 use lib.Dec.{eqb}
-use Rattle.order.specs.Marks.{bit}
-use Rattle.order.proofs.masks.marked.Needs as need
+use Rattle.masks.specs.Bits.{bit}
+use Rattle.masks.proofs.marked.Needs as need
 
 pub returns : need.returns
 unfolding bit
