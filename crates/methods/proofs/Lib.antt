@@ -1,0 +1,3 @@
+pub mod Mapping
+pub mod Growing
+pub mod Labels
