@@ -26,7 +26,11 @@ fn grow(row: u8, x: u8, a: u8, after: u8) -> u8
     requires { ⌜ a < 8 ⌝ }
     ensures { λ r. ⌜ r ≡ grown a after x row ⌝ }
 {
-    if (x == a) | marked(row, a) { row | after } else { row }
+    if (x == a) | marked(row, a) {
+        row | after
+    } else {
+        row
+    }
 }
 
 /// Grows each row.
