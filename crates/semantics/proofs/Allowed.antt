@@ -13,6 +13,7 @@ use Rattle.line.specs.declared.command.Command.{Command}
 use Rattle.line.specs.declared.command.Command.the-variants.{AppendAdd, AppendDelete, AppendNeed, CloseMethod, Decompose, EndPhase, Judge, NewCompound, NewPrimitive, NewStep, OpenMethod, PutLink, PutOrder, RouteAdd, RouteNeed, Take}
 use Rattle.page.specs.declared.answer.Row.{Row}
 use Rattle.semantics.specs.Decomposing.{decompose-step}
+use Rattle.semantics.specs.Drafts.{AddGoes, NeedGoes, OwnEnds}
 use Rattle.semantics.specs.Facts.{as-sum, CanTake, facts-after}
 use Rattle.semantics.specs.Methods.{Method, own-task-of}
 use Rattle.semantics.specs.OpenLines.{task-at}
@@ -32,19 +33,6 @@ task-now st s = task-at (st .tasks) (steps-now st) s
 
 abbrev pub method-task : State → Option Task
 method-task st = nth (st .tasks) (st .draft .task)
-
--- the two ends of a link of a method name one fact
-
-abbrev pub OwnEnds : List Task → Method → Link → Type 0
-OwnEnds ts m l = (f : ℕ) × (u : Task) × (v : Task) × (own-task-of ts m (l .producer) ≡ Some u) × (own-task-of ts m (l .consumer) ≡ Some v)
-    × Labelled (u .adds) (l .add) f × Labelled (v .needs) (l .need) f
-
--- need j of the task goes to need k of step a, and add i to add k
-abbrev pub NeedGoes : List Task → Method → Task → ℕ → ℕ × ℕ → Type 0
-NeedGoes ts m t j e = (f : ℕ) × (u : Task) × (own-task-of ts m (e .0) ≡ Some u) × Labelled (u .needs) (e .1) f × Labelled (t .needs) j f
-
-abbrev pub AddGoes : List Task → Method → Task → ℕ → ℕ × ℕ → Type 0
-AddGoes ts m t i e = (f : ℕ) × (u : Task) × (own-task-of ts m (e .0) ≡ Some u) × Labelled (u .adds) (e .1) f × Labelled (t .adds) i f
 
 -- the ends of a link of a plan are two steps and name one fact; between primitive steps the order has room for it
 pub record Room (ts : List Task) (p : Plan) (l : Link) : Type 0 where

@@ -92,14 +92,14 @@ module _ (capacity : ℕ) (st : State) where
   own-order : st .phase ≡ MethodOpen → order-now st ≡ st .draft .before
   own-order e = open-method (st .phase) (st .draft .before) (st .plan .before) e
 
-  at-step : (t : ℕ) → Clear (causes capacity st (NewStep t)) → Allowed st (NewStep t)
+  pub at-step : (t : ℕ) → Clear (causes capacity st (NewStep t)) → Allowed st (NewStep t)
   at-step t c = (
     known-task t (named 1 (ltb t (length (st .tasks)) ∷ []) (c .1 .0) .0),
     ⊎-elim (λ e. inl e) (λ z. ⊎-elim (λ e. inr e) (λ y. absurd y) z) (inside (st .phase) (MethodOpen ∷ Initial ∷ []) (c .0)),
     (let z = or-parts (eqb t 0) (eqb t 1) (when-none (eqb t 0 || eqb t 1) (c .1 .1 .0)) in let a = eqb-false t 0 (z .0) in let b = eqb-false t 1 (z .1) in above-one t a b),
   )
 
-  at-order : (p q : ℕ) → Clear (causes capacity st (PutOrder p q)) → Allowed st (PutOrder p q)
+  pub at-order : (p q : ℕ) → Clear (causes capacity st (PutOrder p q)) → Allowed st (PutOrder p q)
   at-order p q c =
       let ns = named 1 (is-step (steps-now st) p ∷ is-step (steps-now st) q ∷ []) (c .1 .0) in
       let np : is-step (steps-now st) p ≡ true = ns .0 in
@@ -133,7 +133,7 @@ module _ (capacity : ℕ) (st : State) where
       let z : order-now st q p ≡ true = ap (λ (R : ℕ → ℕ → Bool). R q p) (own-order e) ∙ h in
       both-ways _ free (and-from _ _ x (and-from _ _ y z))
 
-  at-link : (p i q j : ℕ) → Clear (causes capacity st (PutLink p i q j)) → Allowed st (PutLink p i q j)
+  pub at-link : (p i q j : ℕ) → Clear (causes capacity st (PutLink p i q j)) → Allowed st (PutLink p i q j)
   at-link p i q j c =
       let free : (eqb p q || (is-primitive (task-now st p) && (is-primitive (task-now st q) && order-now st q p))) ≡ false = when-none _ (c .1 .1 .1 .1 .0) in
       let f = same-fact (adds-of (task-now st p)) (needs-of (task-now st q)) i j (when-none (differ (nth (adds-of (task-now st p)) i) (nth (needs-of (task-now st q)) j)) (c .1 .1 .0)) in
@@ -166,7 +166,7 @@ module _ (capacity : ℕ) (st : State) where
       ))
       (in-open (st .phase) (c .0))
 
-  at-need-goes : (j s k : ℕ) → Clear (causes capacity st (RouteNeed j s k)) → Allowed st (RouteNeed j s k)
+  pub at-need-goes : (j s k : ℕ) → Clear (causes capacity st (RouteNeed j s k)) → Allowed st (RouteNeed j s k)
   at-need-goes j s k c =
       let e = in-method (st .phase) (c .0) in
       let f = same-fact (needs-of (method-task st)) (needs-of (own-task-of (st .tasks) (st .draft) s)) j k (when-none (differ (nth (needs-of (method-task st)) j) (nth (needs-of (own-task-of (st .tasks) (st .draft) s)) k)) (c .1 .1 .1 .0)) in
@@ -174,7 +174,7 @@ module _ (capacity : ℕ) (st : State) where
       let u = needs-some (own-task-of (st .tasks) (st .draft) s) k (f .0) (f .2) in
       (e, (t .0, t .1, (f .0, u .0, u .1, u .2, t .2)))
 
-  at-add-goes : (i s k : ℕ) → Clear (causes capacity st (RouteAdd i s k)) → Allowed st (RouteAdd i s k)
+  pub at-add-goes : (i s k : ℕ) → Clear (causes capacity st (RouteAdd i s k)) → Allowed st (RouteAdd i s k)
   at-add-goes i s k c =
       let e = in-method (st .phase) (c .0) in
       let f = same-fact (adds-of (method-task st)) (adds-of (own-task-of (st .tasks) (st .draft) s)) i k (when-none (differ (nth (adds-of (method-task st)) i) (nth (adds-of (own-task-of (st .tasks) (st .draft) s)) k)) (c .1 .1 .1 .0)) in
@@ -182,17 +182,17 @@ module _ (capacity : ℕ) (st : State) where
       let u = adds-some (own-task-of (st .tasks) (st .draft) s) k (f .0) (f .2) in
       (e, (t .0, t .1, (f .0, u .0, u .1, u .2, t .2)))
 
-  entered : (fs : List ℕ) (go : ℕ → Option (ℕ × ℕ)) → unentered fs go ≡ None → (j f : ℕ) → Labelled fs j f → (e : ℕ × ℕ) × (go j ≡ Some e)
+  pub entered : (fs : List ℕ) (go : ℕ → Option (ℕ × ℕ)) → unentered fs go ≡ None → (j f : ℕ) → Labelled fs j f → (e : ℕ × ℕ) × (go j ≡ Some e)
   entered fs go h j f l =
       let b = nth-below fs j f l in
       some-of (go j) (not-false (is-some (go j)) (such-none (λ k. not (is-some (go k))) (upfrom 0 (length fs)) h j (upfrom-in 0 (length fs) j .1 (omega arith, omega arith))))
 
-  both-none : (o p : Option ℕ) → needs-then-adds o p ≡ None → (o ≡ None) × (p ≡ None)
+  pub both-none : (o p : Option ℕ) → needs-then-adds o p ≡ None → (o ≡ None) × (p ≡ None)
   both-none None None h = (refl, refl)
   both-none None (Some i) h = let w : ⊥ = grind arith in absurd w
   both-none (Some j) p h = let w : ⊥ = grind arith in absurd w
 
-  at-close : Lawful st → Clear (causes capacity st CloseMethod) → Allowed st CloseMethod
+  pub at-close : Lawful st → Clear (causes capacity st CloseMethod) → Allowed st CloseMethod
   at-close law c =
       let e = in-method (st .phase) (c .0) in
       let t = law .own-task e in

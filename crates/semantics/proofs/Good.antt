@@ -10,6 +10,7 @@ use Rattle.std.specs.Finite.{nth}
 use Rattle.std.specs.declared.option.Option.{Option}
 use Rattle.std.specs.declared.option.Option.the-variants.{Some}
 use Rattle.line.specs.declared.command.Command.the-variants.{EndPhase}
+use Rattle.semantics.specs.Drafts.{AddGoes, Draft, NeedGoes, OwnEnds, OwnOrder}
 use Rattle.semantics.specs.Methods.{add-entry, blank, entered, Fits, link-of, Method, need-entry, order-of, step-of}
 use Rattle.semantics.specs.Orders.{Holds, In, put, Strict}
 use Rattle.semantics.specs.Phases.{phase-after}
@@ -19,28 +20,9 @@ use Rattle.semantics.specs.Tasks.{is-primitive, Labelled, Task}
 use Rattle.semantics.specs.declared.link.Link.{Link}
 use Rattle.semantics.specs.declared.phase.Phase.{Phase}
 use Rattle.semantics.specs.declared.phase.Phase.the-variants.{Initial, MethodOpen, Methods, Refine, Running, Tasks}
-use Rattle.semantics.proofs.Allowed.{AddGoes, NeedGoes, OwnEnds, PlanOpen}
+use Rattle.semantics.proofs.Allowed.{PlanOpen}
 use Rattle.semantics.proofs.Links.{linked-with}
 use Rattle.semantics.proofs.Orders.{put-cases, put-new, put-old, put-strict}
-
--- The order of a method that is being told, and how its links keep to it.
-pub record OwnOrder (ts : List Task) (m : Method) : Type 0 where
-  pub apart : (l : Link) → Linked l (m .links) → l .producer ≡ l .consumer → ⊥
-  pub ordered : (l : Link) → Linked l (m .links) → both-primitive ts (map Some (m .steps)) l ≡ true → Holds (m .before) (l .producer) (l .consumer)
-  pub strict : Strict (m .before)
-  pub own-steps : (a b : ℕ) → Holds (m .before) a b → (a < length (m .steps)) × (b < length (m .steps))
-
--- A method that is being told: what it has so far fits its task.
-pub record Draft (ts : List Task) (m : Method) : Type 0 where
-  pub task : Task
-  pub is-task : nth ts (m .task) ≡ Some task
-  pub compound : task .primitive ≡ false
-  pub tasks-known : (a t : ℕ) → nth (m .steps) a ≡ Some t → (u : Task) × (nth ts t ≡ Some u)
-  pub plain-steps : (a t : ℕ) → nth (m .steps) a ≡ Some t → 2 ≤ t
-  pub needs : (j : ℕ) (e : ℕ × ℕ) → m .needs-go j ≡ Some e → NeedGoes ts m task j e
-  pub adds : (i : ℕ) (e : ℕ × ℕ) → m .adds-go i ≡ Some e → AddGoes ts m task i e
-  pub links : (l : Link) → Linked l (m .links) → OwnEnds ts m l
-  pub order : OwnOrder ts m
 
 pub draft-blank : (ts : List Task) (t : ℕ) (u : Task) → nth ts t ≡ Some u → u .primitive ≡ false → Draft ts (blank t)
 draft-blank ts t u h c = record {

@@ -20,3 +20,4 @@ pub mod Lowest
 pub mod Limits
 pub mod Exact
 pub mod Decomposes
+pub mod Drafting

@@ -6,6 +6,7 @@ pub mod Closures
 pub mod Plans
 pub mod Facts
 pub mod Methods
+pub mod Drafts
 pub mod Decomposing
 pub mod Phases
 pub mod Book
