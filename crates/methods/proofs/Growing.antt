@@ -13,8 +13,8 @@ use Rattle.std.proofs.shelf.Lists.{getD-past, getD-replicate}
 use Rattle.std.proofs.shelf.Tests.{both-ways, cases-bool, cases-lt, cond-false, cond-true, le-ltb, lt-ltb, ne-eqb}
 use Rattle.semantics.specs.Orders.{Holds, put, Relation, Strict}
 use Rattle.semantics.proofs.Orders.{put-cases, put-strict}
-use Rattle.domain.specs.Facts.{bit}
-use Rattle.domain.proofs.Bits.{bit-or, bit-pow, bit-zero}
+use Rattle.masks.specs.Bits.{bit}
+use Rattle.masks.proofs.Bits.{bit-or, bit-pow, bit-zero}
 use Rattle.methods.specs.Rows.{grown, marks}
 
 -- a relation within the numbers below n

@@ -6,7 +6,7 @@ use lib.Bits.{bitOr}
 use lib.Dec.{eqb}
 use lib.ListN.{getD}
 use Rattle.semantics.specs.Orders.{Relation}
-use Rattle.domain.specs.Facts.{bit}
+use Rattle.masks.specs.Bits.{bit}
 
 -- x is before y where row x has the bit y
 unfoldable pub marks : List ℕ → Relation

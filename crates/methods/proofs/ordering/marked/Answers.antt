@@ -2,7 +2,7 @@ use mathlib.Core.Path.{ap}
 use Prim.Native.Nat.{_/_, _^_, ℕ}
 use lib.Bits.{and-mask}
 use lib.Dec.{eqb}
-use Rattle.domain.specs.Facts.{bit}
+use Rattle.masks.specs.Bits.{bit}
 use Rattle.methods.proofs.ordering.marked.Needs as need
 
 pub returns : need.returns
