@@ -1,2 +1,3 @@
 mod Downs
 mod Ups
+mod Puts

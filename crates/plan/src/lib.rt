@@ -4,6 +4,7 @@
 mod asking;
 mod judging;
 mod linking;
+mod ordering;
 mod plan;
 
 pub use plan::Plan;
