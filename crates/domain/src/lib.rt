@@ -12,5 +12,6 @@ mod telling;
 
 pub use facts::FactList;
 pub use kind::Kind;
+pub use places::is_init_or_goal;
 pub use task::Task;
 pub use tasks::Tasks;

@@ -1,7 +1,8 @@
 //! The places of the tasks.
 ghost use mathlib.Core.Path.{_≡_};
 ghost use Prim.Native.Nat.{ℕ};
-ghost use lib.Dec.{ltb};
+ghost use mathlib.Core.Bool.{_||_};
+ghost use lib.Dec.{eqb, ltb};
 ghost use lib.ListN.{length, set};
 ghost use Rattle.std.specs.Finite.{nth};
 ghost use Rattle.std.specs.Options.{isSome, mapped};
@@ -47,6 +48,13 @@ impl Tasks {
         self.list.peek(t as usize)
     }
 
+    /// Whether there is a task `t`.
+    pub fn has(&self, t: u8) -> bool
+        ensures { λ r. ⌜ r ≡ ltb t (length (tasks (now (self .entry)))) ⌝ }
+    {
+        self.task(t).is_some()
+    }
+
     /// A copy of task `t`.
     pub(super) fn copy_of(&self, t: u8) -> Option<Task>
         ensures item { λ r. ⌜ mapped task r ≡ nth (tasks (now (self .entry))) t ⌝ }
@@ -61,4 +69,11 @@ impl Tasks {
     {
         self.list.change(t as usize, x)
     }
+}
+
+/// Whether a task is init or goal, of which no step is told.
+pub fn is_init_or_goal(task: u8) -> bool
+    ensures { λ r. ⌜ r ≡ (eqb task 0 || eqb task 1) ⌝ }
+{
+    task <= 1
 }

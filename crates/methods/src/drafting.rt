@@ -1,8 +1,6 @@
 //! A method from its opening on: its steps and their order. A refused line changes nothing.
 ghost use mathlib.Core.Path.{_≡_};
-ghost use mathlib.Core.Bool.{_||_};
 ghost use mathlib.Core.List.{map};
-ghost use lib.Dec.{eqb};
 ghost use lib.ListN.{length};
 ghost use Rattle.std.specs.declared.option.Option.the-variants.{Some};
 ghost use Rattle.page.specs.Answers.{row};
@@ -14,19 +12,12 @@ ghost use Rattle.methods.specs.Meaning.{method};
 use crate::Entries;
 use crate::Method;
 use crate::SmallOrder;
-use crate::lookup::is_task;
 use crate::ordering::MOST_STEPS;
 use domain::Tasks;
+use domain::is_init_or_goal;
 use fixed::Fixed;
 use page::Answer;
 use semantics::Link;
-
-/// Whether a task is init or goal, of which no step is told.
-fn is_init_or_goal(t: u8) -> bool
-    ensures { λ r. ⌜ r ≡ (eqb t 0 || eqb t 1) ⌝ }
-{
-    t <= 1
-}
 
 impl Method {
     /// A method for a task, of which nothing is told yet.
@@ -53,7 +44,7 @@ impl Method {
         ensures answer { λ r. ⌜ row r ≡ first-of (step-causes (tasks (now (known .entry))) (length (method (now (self .entry)) .steps)) 8 task) (length (method (now (self .entry)) .steps)) ⌝ }
         ensures after { λ r. ⌜ method (now (self .exit)) ≡ told (row r) (step-of (method (now (self .entry))) task) (method (now (self .entry))) ⌝ }
     {
-        if !is_task(known, task) {
+        if !known.has(task) {
             return Answer::NoSuchName { field: 1 };
         }
         if is_init_or_goal(task) {

@@ -18,13 +18,6 @@ use crate::Method;
 use domain::Task;
 use domain::Tasks;
 
-/// Whether there is a task `t`.
-pub fn is_task(known: &Tasks, t: u8) -> bool
-    ensures { λ r. ⌜ r ≡ ltb t (length (tasks (now (known .entry)))) ⌝ }
-{
-    known.task(t).is_some()
-}
-
 /// The fact of a need of a task that may be none.
 fn need_of(known: Option<&Task>, label: u8) -> Option<u8>
     ensures fact { λ r. ⌜ r ≡ nth (needs-of (mapped (λ x. task (now x)) (known .entry))) label ⌝ }
