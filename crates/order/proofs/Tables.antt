@@ -36,9 +36,9 @@ outside : (rows : List ℕ) (R : Relation) → ((x y : ℕ) → Holds R x y → 
 outside rows R within same = same-relation (marks rows) R (λ x y. let w = within x y in let s = same x y in grind (arith, tells))
 
 -- a new table
-pub table-nothing : marks (replicate {A = ℕ} 64 0) ≡ nothing
-table-nothing = outside (replicate 64 0) nothing (λ x y h. let z : ⊥ = grind arith in absurd z)
-    (λ x y lx ly. inside (replicate 64 0) x y lx ly ∙ ap (λ (n : ℕ). bit n y) (getD-replicate 64 x 0 0 lx) ∙ bit-zero y)
+pub table-nothing : (rows : List ℕ) → rows ≡ replicate 64 0 → marks rows ≡ nothing
+table-nothing rows is = outside rows nothing (λ x y h. let z : ⊥ = grind arith in absurd z)
+    (λ x y lx ly. inside rows x y lx ly ∙ ap (λ (n : ℕ). bit n y) (ap (λ (l : List ℕ). getD l x 0) is ∙ getD-replicate 64 x 0 0 lx) ∙ bit-zero y)
 
 -- a pair put
 module _ (old new : List ℕ) (o : Order 64 (marks old)) (a b : ℕ) (f : Free 64 (marks old) a b)

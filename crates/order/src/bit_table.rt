@@ -2,7 +2,7 @@
 ghost use mathlib.Core.Path.{_≡_};
 ghost use Prim.Native.Nat.{_<_, _^_, ℕ};
 ghost use lib.Bits.{bitOr};
-ghost use lib.ListN.{getD};
+ghost use lib.ListN.{getD, replicate};
 ghost use Rattle.order.specs.Marks.{grown, marks, pruned};
 ghost use Rattle.order.specs.Puts.{can-put, Order};
 use crate::keeper::Keeper;
@@ -15,6 +15,13 @@ use masks::only;
 pub struct BitTable {
     rows: [u64; 64],
     ghost ok: { ∥ Order 64 (marks rows) ∥₁ },
+}
+
+/// Rows with no bit.
+fn no_rows() -> [u64; 64]
+    ensures { λ r. ⌜ r ≡ replicate 64 0 ⌝ }
+{
+    [0; 64]
 }
 
 /// Row `x` after a put: joined with `after` where `x` is `a` or before `a`.
@@ -86,7 +93,7 @@ pub impl Keeper for BitTable as BitTableKeeper {
     }
 
     fn new() -> BitTable {
-        BitTable { rows: [0; 64] }
+        BitTable { rows: no_rows() }
     }
 
     fn before(&self, a: u8, b: u8) -> bool {

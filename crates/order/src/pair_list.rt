@@ -25,12 +25,11 @@ pub struct PairList {
     ghost room: { count ≤ 496 },
 }
 
-/// The mask with the later step of the pair, if its earlier step is `a`.
-fn with_target(found: u64, pair: (u8, u8), a: u8) -> u64
-    requires { ⌜ pair .1 < 64 ⌝ }
-    ensures { λ r. ⌜ r ≡ cond (eqb (pair .0) a) (bitOr found (2 ^ pair .1)) found ⌝ }
+/// The mask with the later step of a pair, if its earlier step is `a`.
+fn with_target(found: u64, earlier: u8, later: u8, a: u8) -> u64
+    requires { ⌜ later < 64 ⌝ }
+    ensures { λ r. ⌜ r ≡ cond (eqb earlier a) (bitOr found (2 ^ later)) found ⌝ }
 {
-    let (earlier, later) = pair;
     if earlier == a {
         found | only(later)
     } else {
@@ -45,7 +44,8 @@ fn targets(pairs: &[(u8, u8); 496], count: usize, a: u8) -> u64
 {
     let mut found = 0;
     for i in 0..count {
-        found = with_target(found, pairs[i], a);
+        let (earlier, later) = pairs[i];
+        found = with_target(found, earlier, later, a);
     }
     found
 }

@@ -147,9 +147,9 @@ fn measure(rt: &LibcRuntime) -> io::Result<()> {
     report::<BitTable>(rt, "bit table, chain", Shape::Chain, 20000)?;
     report::<BitTable>(rt, "bit table, random", Shape::Random, 20000)?;
     report::<BitTable>(rt, "bit table, full", Shape::Full, 2000)?;
-    report::<PairList>(rt, "pair list, chain", Shape::Chain, 200)?;
-    report::<PairList>(rt, "pair list, random", Shape::Random, 200)?;
-    report::<PairList>(rt, "pair list, full", Shape::Full, 20)?;
+    report::<PairList>(rt, "pair list, chain", Shape::Chain, 2000)?;
+    report::<PairList>(rt, "pair list, random", Shape::Random, 2000)?;
+    report::<PairList>(rt, "pair list, full", Shape::Full, 100)?;
     println!(rt, "")?;
     println!(
         rt,

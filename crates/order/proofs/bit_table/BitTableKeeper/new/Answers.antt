@@ -1,5 +1,4 @@
 use mathlib.Core.Path.{subst, sym}
-use lib.ListN.{replicate}
 use Rattle.order.specs.Puts.{Order}
 use Rattle.order.proofs.Ordered.{order-nothing}
 use Rattle.order.proofs.Tables.{table-nothing}
@@ -7,7 +6,7 @@ use Rattle.order.proofs.bit_table.BitTableKeeper.new.Needs as need
 use Rattle.semantics.specs.Orders.{Relation}
 
 pub ghost-result : need.ghost-result
-ghost-result c = (∣ subst (λ (R : Relation). Order 64 R) (sym table-nothing) (order-nothing 64) ∣₁, tt)
+ghost-result c = (∣ subst (λ (R : Relation). Order 64 R) (sym (table-nothing (c .no-rows .result) (c .no-rows .ensures))) (order-nothing 64) ∣₁, tt)
 
 pub returns : need.returns
-returns c = table-nothing
+returns c = table-nothing (c .no-rows .result) (c .no-rows .ensures)
