@@ -55,6 +55,17 @@ pub fn told(domain: &mut Domain, line: &str) -> Numbers {
     }
 }
 
+/// Tells some lines, and answers the place of the first whose row is not the one that stands beside it.
+pub fn first_wrong(domain: &mut Domain, table: &[(&str, Numbers)]) -> Option<usize> {
+    for (i, case) in table.iter().enumerate() {
+        let (line, wanted) = *case;
+        if told(domain, line) != wanted {
+            return Some(i);
+        }
+    }
+    None
+}
+
 /// Tells some lines, each of which gets the row `0,0,0,0`, and answers whether all did.
 pub fn all_plain(domain: &mut Domain, lines: &[&str]) -> bool {
     for line in lines {
@@ -121,52 +132,76 @@ mod tests {
     #[test]
     fn needs_and_adds() -> Result<(), Fail> {
         let mut d = Domain::open();
-        check_eq(told(&mut d, "P"), (0, 2, 0, 0))?;
-        check_eq(told(&mut d, "C"), (0, 3, 0, 0))?;
-        check_eq(told(&mut d, "N,4,0"), (6, 1, 0, 0))?;
-        check_eq(told(&mut d, "N,2,64"), (6, 2, 0, 0))?;
-        check_eq(told(&mut d, "N,4,64"), (6, 1, 0, 0))?;
-        check_eq(told(&mut d, "N,0,0"), (7, 0, 0, 0))?;
-        check_eq(told(&mut d, "N,2,63"), (0, 0, 0, 0))?;
-        check_eq(told(&mut d, "N,2,63"), (0, 1, 0, 0))?;
-        check_eq(told(&mut d, "N,1,0"), (0, 0, 0, 0))?;
-        check_eq(told(&mut d, "A,4,0"), (6, 1, 0, 0))?;
-        check_eq(told(&mut d, "A,2,64"), (6, 2, 0, 0))?;
-        check_eq(told(&mut d, "A,1,0"), (7, 0, 0, 0))?;
-        check_eq(told(&mut d, "A,0,63"), (0, 0, 0, 0))?;
+        check_eq(
+            first_wrong(
+                &mut d,
+                &[
+                    ("P", (0, 2, 0, 0)),
+                    ("C", (0, 3, 0, 0)),
+                    ("N,4,0", (6, 1, 0, 0)),
+                    ("N,2,64", (6, 2, 0, 0)),
+                    ("N,4,64", (6, 1, 0, 0)),
+                    ("N,0,0", (7, 0, 0, 0)),
+                    ("N,2,63", (0, 0, 0, 0)),
+                    ("N,2,63", (0, 1, 0, 0)),
+                    ("N,1,0", (0, 0, 0, 0)),
+                    ("A,4,0", (6, 1, 0, 0)),
+                    ("A,2,64", (6, 2, 0, 0)),
+                    ("A,1,0", (7, 0, 0, 0)),
+                    ("A,0,63", (0, 0, 0, 0)),
+                ],
+            ),
+            None,
+        )?;
         Ok(())
     }
 
     #[test]
     fn deletes() -> Result<(), Fail> {
         let mut d = yard();
-        check_eq(told(&mut d, "D,5,0"), (6, 1, 0, 0))?;
-        check_eq(told(&mut d, "D,2,64"), (6, 2, 0, 0))?;
-        check_eq(told(&mut d, "D,0,0"), (7, 0, 0, 0))?;
-        check_eq(told(&mut d, "D,1,0"), (7, 0, 0, 0))?;
-        check_eq(told(&mut d, "D,4,0"), (7, 0, 0, 0))?;
-        check_eq(told(&mut d, "D,0,64"), (6, 2, 0, 0))?;
-        check_eq(told(&mut d, "D,2,63"), (0, 0, 0, 0))?;
-        check_eq(told(&mut d, "D,2,0"), (0, 1, 0, 0))?;
-        check_eq(told(&mut d, "E"), (0, 0, 0, 0))?;
-        check_eq(told(&mut d, "D,2,0"), (5, 0, 0, 0))?;
-        check_eq(told(&mut d, "D,9,99"), (5, 0, 0, 0))?;
+        check_eq(
+            first_wrong(
+                &mut d,
+                &[
+                    ("D,5,0", (6, 1, 0, 0)),
+                    ("D,2,64", (6, 2, 0, 0)),
+                    ("D,0,0", (7, 0, 0, 0)),
+                    ("D,1,0", (7, 0, 0, 0)),
+                    ("D,4,0", (7, 0, 0, 0)),
+                    ("D,0,64", (6, 2, 0, 0)),
+                    ("D,2,63", (0, 0, 0, 0)),
+                    ("D,2,0", (0, 1, 0, 0)),
+                    ("E", (0, 0, 0, 0)),
+                    ("D,2,0", (5, 0, 0, 0)),
+                    ("D,9,99", (5, 0, 0, 0)),
+                ],
+            ),
+            None,
+        )?;
         Ok(())
     }
 
     #[test]
     fn letters_after_their_phase() -> Result<(), Fail> {
         let mut d = yard();
-        check_eq(told(&mut d, "E"), (0, 0, 0, 0))?;
-        check_eq(told(&mut d, "P"), (5, 0, 0, 0))?;
-        check_eq(told(&mut d, "C"), (5, 0, 0, 0))?;
-        check_eq(told(&mut d, "N,2,0"), (5, 0, 0, 0))?;
-        check_eq(told(&mut d, "A,2,0"), (5, 0, 0, 0))?;
-        check_eq(told(&mut d, "E"), (0, 0, 0, 0))?;
-        check_eq(told(&mut d, "M,4"), (5, 0, 0, 0))?;
-        check_eq(told(&mut d, "E"), (0, 0, 0, 0))?;
-        check_eq(told(&mut d, "E"), (5, 0, 0, 0))?;
-        check_eq(told(&mut d, "K"), (5, 0, 0, 0))?;
+        check_eq(
+            first_wrong(
+                &mut d,
+                &[
+                    ("E", (0, 0, 0, 0)),
+                    ("P", (5, 0, 0, 0)),
+                    ("C", (5, 0, 0, 0)),
+                    ("N,2,0", (5, 0, 0, 0)),
+                    ("A,2,0", (5, 0, 0, 0)),
+                    ("E", (0, 0, 0, 0)),
+                    ("M,4", (5, 0, 0, 0)),
+                    ("E", (0, 0, 0, 0)),
+                    ("E", (5, 0, 0, 0)),
+                    ("K", (5, 0, 0, 0)),
+                ],
+            ),
+            None,
+        )?;
         Ok(())
     }
 
@@ -176,10 +211,18 @@ mod tests {
         for n in 2..32u64 {
             check_eq(told(&mut d, "P"), (0, n, 0, 0))?;
         }
-        check_eq(told(&mut d, "P"), (10, 0, 0, 0))?;
-        check_eq(told(&mut d, "C"), (10, 0, 0, 0))?;
-        check_eq(told(&mut d, "N,31,0"), (0, 0, 0, 0))?;
-        check_eq(told(&mut d, "N,32,0"), (6, 1, 0, 0))?;
+        check_eq(
+            first_wrong(
+                &mut d,
+                &[
+                    ("P", (10, 0, 0, 0)),
+                    ("C", (10, 0, 0, 0)),
+                    ("N,31,0", (0, 0, 0, 0)),
+                    ("N,32,0", (6, 1, 0, 0)),
+                ],
+            ),
+            None,
+        )?;
         Ok(())
     }
 
@@ -195,39 +238,65 @@ mod tests {
         for k in 0..32u64 {
             check_eq(told(&mut d, "D,2,63"), (0, k, 0, 0))?;
         }
-        check_eq(told(&mut d, "N,2,0"), (10, 0, 0, 0))?;
-        check_eq(told(&mut d, "A,2,0"), (10, 0, 0, 0))?;
-        check_eq(told(&mut d, "D,2,0"), (10, 0, 0, 0))?;
-        check_eq(told(&mut d, "N,2,64"), (6, 2, 0, 0))?;
+        check_eq(
+            first_wrong(
+                &mut d,
+                &[
+                    ("N,2,0", (10, 0, 0, 0)),
+                    ("A,2,0", (10, 0, 0, 0)),
+                    ("D,2,0", (10, 0, 0, 0)),
+                    ("N,2,64", (6, 2, 0, 0)),
+                ],
+            ),
+            None,
+        )?;
         Ok(())
     }
 
     #[test]
     fn opening_a_method() -> Result<(), Fail> {
         let mut d = yard();
-        check_eq(told(&mut d, "M,4"), (5, 0, 0, 0))?;
-        check_eq(told(&mut d, "E"), (0, 0, 0, 0))?;
-        check_eq(told(&mut d, "M,5"), (6, 1, 0, 0))?;
-        check_eq(told(&mut d, "M,0"), (7, 0, 0, 0))?;
-        check_eq(told(&mut d, "M,2"), (7, 0, 0, 0))?;
-        check_eq(told(&mut d, "M,4"), (0, 0, 0, 0))?;
-        check_eq(told(&mut d, "M,4"), (5, 0, 0, 0))?;
-        check_eq(told(&mut d, "E"), (5, 0, 0, 0))?;
+        check_eq(
+            first_wrong(
+                &mut d,
+                &[
+                    ("M,4", (5, 0, 0, 0)),
+                    ("E", (0, 0, 0, 0)),
+                    ("M,5", (6, 1, 0, 0)),
+                    ("M,0", (7, 0, 0, 0)),
+                    ("M,2", (7, 0, 0, 0)),
+                    ("M,4", (0, 0, 0, 0)),
+                    ("M,4", (5, 0, 0, 0)),
+                    ("E", (5, 0, 0, 0)),
+                ],
+            ),
+            None,
+        )?;
         Ok(())
     }
 
     #[test]
     fn the_32nd_and_33rd_method() -> Result<(), Fail> {
         let mut d = Domain::open();
-        check_eq(told(&mut d, "C"), (0, 2, 0, 0))?;
-        check_eq(told(&mut d, "E"), (0, 0, 0, 0))?;
+        check_eq(
+            first_wrong(&mut d, &[("C", (0, 2, 0, 0)), ("E", (0, 0, 0, 0))]),
+            None,
+        )?;
         for n in 0..32u64 {
             check_eq(told(&mut d, "M,2"), (0, n, 0, 0))?;
             check_eq(told(&mut d, "K"), (0, 0, 0, 0))?;
         }
-        check_eq(told(&mut d, "M,2"), (10, 0, 0, 0))?;
-        check_eq(told(&mut d, "M,0"), (7, 0, 0, 0))?;
-        check_eq(told(&mut d, "M,3"), (6, 1, 0, 0))?;
+        check_eq(
+            first_wrong(
+                &mut d,
+                &[
+                    ("M,2", (10, 0, 0, 0)),
+                    ("M,0", (7, 0, 0, 0)),
+                    ("M,3", (6, 1, 0, 0)),
+                ],
+            ),
+            None,
+        )?;
         Ok(())
     }
 
@@ -236,32 +305,56 @@ mod tests {
         let mut d = yard();
         check_eq(told(&mut d, "S,2"), (5, 0, 0, 0))?;
         check(all_plain(&mut d, &["E", "M,4"]))?;
-        check_eq(told(&mut d, "S,5"), (6, 1, 0, 0))?;
-        check_eq(told(&mut d, "S,0"), (7, 0, 0, 0))?;
-        check_eq(told(&mut d, "S,1"), (7, 0, 0, 0))?;
+        check_eq(
+            first_wrong(
+                &mut d,
+                &[
+                    ("S,5", (6, 1, 0, 0)),
+                    ("S,0", (7, 0, 0, 0)),
+                    ("S,1", (7, 0, 0, 0)),
+                ],
+            ),
+            None,
+        )?;
         for n in 0..8u64 {
             check_eq(told(&mut d, "S,4"), (0, n, 0, 0))?;
         }
-        check_eq(told(&mut d, "S,4"), (10, 0, 0, 0))?;
-        check_eq(told(&mut d, "S,0"), (7, 0, 0, 0))?;
-        check_eq(told(&mut d, "O,0,7"), (0, 0, 0, 0))?;
-        check_eq(told(&mut d, "O,0,8"), (6, 2, 0, 0))?;
+        check_eq(
+            first_wrong(
+                &mut d,
+                &[
+                    ("S,4", (10, 0, 0, 0)),
+                    ("S,0", (7, 0, 0, 0)),
+                    ("O,0,7", (0, 0, 0, 0)),
+                    ("O,0,8", (6, 2, 0, 0)),
+                ],
+            ),
+            None,
+        )?;
         Ok(())
     }
 
     #[test]
     fn order() -> Result<(), Fail> {
         let mut d = open_ring();
-        check_eq(told(&mut d, "O,3,0"), (6, 1, 0, 0))?;
-        check_eq(told(&mut d, "O,0,3"), (6, 2, 0, 0))?;
-        check_eq(told(&mut d, "O,9,9"), (6, 1, 0, 0))?;
-        check_eq(told(&mut d, "O,0,0"), (11, 0, 0, 0))?;
-        check_eq(told(&mut d, "O,0,1"), (0, 0, 0, 0))?;
-        check_eq(told(&mut d, "O,0,1"), (0, 0, 0, 0))?;
-        check_eq(told(&mut d, "O,1,0"), (11, 0, 0, 0))?;
-        check_eq(told(&mut d, "O,1,2"), (0, 0, 0, 0))?;
-        check_eq(told(&mut d, "O,2,0"), (11, 0, 0, 0))?;
-        check_eq(told(&mut d, "O,0,2"), (0, 0, 0, 0))?;
+        check_eq(
+            first_wrong(
+                &mut d,
+                &[
+                    ("O,3,0", (6, 1, 0, 0)),
+                    ("O,0,3", (6, 2, 0, 0)),
+                    ("O,9,9", (6, 1, 0, 0)),
+                    ("O,0,0", (11, 0, 0, 0)),
+                    ("O,0,1", (0, 0, 0, 0)),
+                    ("O,0,1", (0, 0, 0, 0)),
+                    ("O,1,0", (11, 0, 0, 0)),
+                    ("O,1,2", (0, 0, 0, 0)),
+                    ("O,2,0", (11, 0, 0, 0)),
+                    ("O,0,2", (0, 0, 0, 0)),
+                ],
+            ),
+            None,
+        )?;
         check_eq(told(&mut yard(), "O,0,1"), (5, 0, 0, 0))?;
         Ok(())
     }
@@ -269,16 +362,24 @@ mod tests {
     #[test]
     fn links() -> Result<(), Fail> {
         let mut d = open_yard();
-        check_eq(told(&mut d, "L,2,0,1,0"), (6, 1, 0, 0))?;
-        check_eq(told(&mut d, "L,0,1,1,0"), (6, 2, 0, 0))?;
-        check_eq(told(&mut d, "L,0,1,9,9"), (6, 2, 0, 0))?;
-        check_eq(told(&mut d, "L,0,0,2,0"), (6, 3, 0, 0))?;
-        check_eq(told(&mut d, "L,0,0,1,1"), (6, 4, 0, 0))?;
-        check_eq(told(&mut d, "L,1,0,0,0"), (9, 0, 0, 0))?;
-        check_eq(told(&mut d, "L,0,0,1,0"), (0, 0, 0, 0))?;
-        check_eq(told(&mut d, "L,0,0,1,0"), (0, 0, 0, 0))?;
-        check_eq(told(&mut d, "O,1,0"), (11, 0, 0, 0))?;
-        check_eq(told(&mut d, "O,0,1"), (0, 0, 0, 0))?;
+        check_eq(
+            first_wrong(
+                &mut d,
+                &[
+                    ("L,2,0,1,0", (6, 1, 0, 0)),
+                    ("L,0,1,1,0", (6, 2, 0, 0)),
+                    ("L,0,1,9,9", (6, 2, 0, 0)),
+                    ("L,0,0,2,0", (6, 3, 0, 0)),
+                    ("L,0,0,1,1", (6, 4, 0, 0)),
+                    ("L,1,0,0,0", (9, 0, 0, 0)),
+                    ("L,0,0,1,0", (0, 0, 0, 0)),
+                    ("L,0,0,1,0", (0, 0, 0, 0)),
+                    ("O,1,0", (11, 0, 0, 0)),
+                    ("O,0,1", (0, 0, 0, 0)),
+                ],
+            ),
+            None,
+        )?;
         check_eq(told(&mut yard(), "L,0,0,1,0"), (5, 0, 0, 0))?;
         Ok(())
     }
@@ -286,13 +387,21 @@ mod tests {
     #[test]
     fn circles_through_links_alone() -> Result<(), Fail> {
         let mut d = open_ring();
-        check_eq(told(&mut d, "L,0,0,0,0"), (11, 0, 0, 0))?;
-        check_eq(told(&mut d, "L,0,0,1,0"), (0, 0, 0, 0))?;
-        check_eq(told(&mut d, "L,1,0,2,0"), (0, 0, 0, 0))?;
-        check_eq(told(&mut d, "L,2,0,0,0"), (11, 0, 0, 0))?;
-        check_eq(told(&mut d, "L,1,0,0,0"), (11, 0, 0, 0))?;
-        check_eq(told(&mut d, "L,0,0,2,0"), (0, 0, 0, 0))?;
-        check_eq(told(&mut d, "K"), (0, 0, 0, 0))?;
+        check_eq(
+            first_wrong(
+                &mut d,
+                &[
+                    ("L,0,0,0,0", (11, 0, 0, 0)),
+                    ("L,0,0,1,0", (0, 0, 0, 0)),
+                    ("L,1,0,2,0", (0, 0, 0, 0)),
+                    ("L,2,0,0,0", (11, 0, 0, 0)),
+                    ("L,1,0,0,0", (11, 0, 0, 0)),
+                    ("L,0,0,2,0", (0, 0, 0, 0)),
+                    ("K", (0, 0, 0, 0)),
+                ],
+            ),
+            None,
+        )?;
         Ok(())
     }
 
@@ -301,20 +410,30 @@ mod tests {
         let mut d = Domain::open();
         check_eq(told(&mut d, "C"), (0, 2, 0, 0))?;
         check(all_plain(&mut d, &["N,2,0", "A,2,0", "E", "M,2", "S,2"]))?;
-        check_eq(told(&mut d, "S,2"), (0, 1, 0, 0))?;
-        check_eq(told(&mut d, "L,0,0,0,0"), (11, 0, 0, 0))?;
-        check_eq(told(&mut d, "L,0,0,1,0"), (0, 0, 0, 0))?;
-        check_eq(told(&mut d, "L,1,0,0,0"), (0, 0, 0, 0))?;
-        check_eq(told(&mut d, "O,1,0"), (0, 0, 0, 0))?;
-        check_eq(told(&mut d, "O,0,1"), (11, 0, 0, 0))?;
+        check_eq(
+            first_wrong(
+                &mut d,
+                &[
+                    ("S,2", (0, 1, 0, 0)),
+                    ("L,0,0,0,0", (11, 0, 0, 0)),
+                    ("L,0,0,1,0", (0, 0, 0, 0)),
+                    ("L,1,0,0,0", (0, 0, 0, 0)),
+                    ("O,1,0", (0, 0, 0, 0)),
+                    ("O,0,1", (11, 0, 0, 0)),
+                ],
+            ),
+            None,
+        )?;
         Ok(())
     }
 
     #[test]
     fn the_16th_and_17th_link() -> Result<(), Fail> {
         let mut d = Domain::open();
-        check_eq(told(&mut d, "P"), (0, 2, 0, 0))?;
-        check_eq(told(&mut d, "C"), (0, 3, 0, 0))?;
+        check_eq(
+            first_wrong(&mut d, &[("P", (0, 2, 0, 0)), ("C", (0, 3, 0, 0))]),
+            None,
+        )?;
         for n in 0..5u64 {
             check_eq(told(&mut d, "N,2,0"), (0, n, 0, 0))?;
             check_eq(told(&mut d, "A,2,0"), (0, n, 0, 0))?;
@@ -322,27 +441,43 @@ mod tests {
         check(all_plain(&mut d, &["E", "M,3", "S,2"]))?;
         check_eq(told(&mut d, "S,2"), (0, 1, 0, 0))?;
         check(sixteen_links(&mut d))?;
-        check_eq(told(&mut d, "L,0,4,1,0"), (10, 0, 0, 0))?;
-        check_eq(told(&mut d, "L,0,0,1,0"), (0, 0, 0, 0))?;
-        check_eq(told(&mut d, "L,0,3,1,3"), (0, 0, 0, 0))?;
-        check_eq(told(&mut d, "L,1,0,0,0"), (10, 0, 0, 0))?;
-        check_eq(told(&mut d, "L,0,0,0,0"), (10, 0, 0, 0))?;
-        check_eq(told(&mut d, "L,0,5,1,0"), (6, 2, 0, 0))?;
+        check_eq(
+            first_wrong(
+                &mut d,
+                &[
+                    ("L,0,4,1,0", (10, 0, 0, 0)),
+                    ("L,0,0,1,0", (0, 0, 0, 0)),
+                    ("L,0,3,1,3", (0, 0, 0, 0)),
+                    ("L,1,0,0,0", (10, 0, 0, 0)),
+                    ("L,0,0,0,0", (10, 0, 0, 0)),
+                    ("L,0,5,1,0", (6, 2, 0, 0)),
+                ],
+            ),
+            None,
+        )?;
         Ok(())
     }
 
     #[test]
     fn entries_of_needs() -> Result<(), Fail> {
         let mut d = open_yard();
-        check_eq(told(&mut d, "U,1,0,0"), (6, 1, 0, 0))?;
-        check_eq(told(&mut d, "U,0,2,0"), (6, 2, 0, 0))?;
-        check_eq(told(&mut d, "U,0,0,1"), (6, 3, 0, 0))?;
-        check_eq(told(&mut d, "U,1,9,9"), (6, 1, 0, 0))?;
-        check_eq(told(&mut d, "U,0,1,0"), (9, 0, 0, 0))?;
-        check_eq(told(&mut d, "U,0,0,0"), (0, 0, 0, 0))?;
-        check_eq(told(&mut d, "U,0,0,0"), (8, 0, 0, 0))?;
-        check_eq(told(&mut d, "U,0,1,0"), (8, 0, 0, 0))?;
-        check_eq(told(&mut d, "K"), (12, 1, 0, 0))?;
+        check_eq(
+            first_wrong(
+                &mut d,
+                &[
+                    ("U,1,0,0", (6, 1, 0, 0)),
+                    ("U,0,2,0", (6, 2, 0, 0)),
+                    ("U,0,0,1", (6, 3, 0, 0)),
+                    ("U,1,9,9", (6, 1, 0, 0)),
+                    ("U,0,1,0", (9, 0, 0, 0)),
+                    ("U,0,0,0", (0, 0, 0, 0)),
+                    ("U,0,0,0", (8, 0, 0, 0)),
+                    ("U,0,1,0", (8, 0, 0, 0)),
+                    ("K", (12, 1, 0, 0)),
+                ],
+            ),
+            None,
+        )?;
         check_eq(told(&mut yard(), "U,0,0,0"), (5, 0, 0, 0))?;
         Ok(())
     }
@@ -350,15 +485,23 @@ mod tests {
     #[test]
     fn entries_of_adds() -> Result<(), Fail> {
         let mut d = open_yard();
-        check_eq(told(&mut d, "V,1,0,0"), (6, 1, 0, 0))?;
-        check_eq(told(&mut d, "V,0,2,0"), (6, 2, 0, 0))?;
-        check_eq(told(&mut d, "V,0,0,1"), (6, 3, 0, 0))?;
-        check_eq(told(&mut d, "V,1,9,9"), (6, 1, 0, 0))?;
-        check_eq(told(&mut d, "V,0,0,0"), (9, 0, 0, 0))?;
-        check_eq(told(&mut d, "V,0,1,0"), (0, 0, 0, 0))?;
-        check_eq(told(&mut d, "V,0,1,0"), (8, 0, 0, 0))?;
-        check_eq(told(&mut d, "V,0,0,0"), (8, 0, 0, 0))?;
-        check_eq(told(&mut d, "K"), (12, 0, 0, 0))?;
+        check_eq(
+            first_wrong(
+                &mut d,
+                &[
+                    ("V,1,0,0", (6, 1, 0, 0)),
+                    ("V,0,2,0", (6, 2, 0, 0)),
+                    ("V,0,0,1", (6, 3, 0, 0)),
+                    ("V,1,9,9", (6, 1, 0, 0)),
+                    ("V,0,0,0", (9, 0, 0, 0)),
+                    ("V,0,1,0", (0, 0, 0, 0)),
+                    ("V,0,1,0", (8, 0, 0, 0)),
+                    ("V,0,0,0", (8, 0, 0, 0)),
+                    ("K", (12, 0, 0, 0)),
+                ],
+            ),
+            None,
+        )?;
         check_eq(told(&mut yard(), "V,0,0,0"), (5, 0, 0, 0))?;
         Ok(())
     }
@@ -366,33 +509,49 @@ mod tests {
     #[test]
     fn closing() -> Result<(), Fail> {
         let mut d = yard();
-        check_eq(told(&mut d, "N,4,0"), (0, 1, 0, 0))?;
-        check_eq(told(&mut d, "A,4,2"), (0, 1, 0, 0))?;
-        check_eq(told(&mut d, "E"), (0, 0, 0, 0))?;
-        check_eq(told(&mut d, "K"), (5, 0, 0, 0))?;
-        check_eq(told(&mut d, "M,4"), (0, 0, 0, 0))?;
-        check_eq(told(&mut d, "S,2"), (0, 0, 0, 0))?;
-        check_eq(told(&mut d, "S,3"), (0, 1, 0, 0))?;
-        check_eq(told(&mut d, "K"), (12, 0, 0, 0))?;
-        check_eq(told(&mut d, "U,0,0,0"), (0, 0, 0, 0))?;
-        check_eq(told(&mut d, "K"), (12, 0, 1, 0))?;
-        check_eq(told(&mut d, "U,1,0,0"), (0, 0, 0, 0))?;
-        check_eq(told(&mut d, "K"), (12, 1, 0, 0))?;
-        check_eq(told(&mut d, "V,0,1,0"), (0, 0, 0, 0))?;
-        check_eq(told(&mut d, "K"), (12, 1, 1, 0))?;
-        check_eq(told(&mut d, "V,1,1,0"), (0, 0, 0, 0))?;
-        check_eq(told(&mut d, "K"), (0, 0, 0, 0))?;
-        check_eq(told(&mut d, "K"), (5, 0, 0, 0))?;
-        check_eq(told(&mut d, "M,4"), (0, 1, 0, 0))?;
+        check_eq(
+            first_wrong(
+                &mut d,
+                &[
+                    ("N,4,0", (0, 1, 0, 0)),
+                    ("A,4,2", (0, 1, 0, 0)),
+                    ("E", (0, 0, 0, 0)),
+                    ("K", (5, 0, 0, 0)),
+                    ("M,4", (0, 0, 0, 0)),
+                    ("S,2", (0, 0, 0, 0)),
+                    ("S,3", (0, 1, 0, 0)),
+                    ("K", (12, 0, 0, 0)),
+                    ("U,0,0,0", (0, 0, 0, 0)),
+                    ("K", (12, 0, 1, 0)),
+                    ("U,1,0,0", (0, 0, 0, 0)),
+                    ("K", (12, 1, 0, 0)),
+                    ("V,0,1,0", (0, 0, 0, 0)),
+                    ("K", (12, 1, 1, 0)),
+                    ("V,1,1,0", (0, 0, 0, 0)),
+                    ("K", (0, 0, 0, 0)),
+                    ("K", (5, 0, 0, 0)),
+                    ("M,4", (0, 1, 0, 0)),
+                ],
+            ),
+            None,
+        )?;
         Ok(())
     }
 
     #[test]
     fn the_yard_listing() -> Result<(), Fail> {
         let mut d = Domain::open();
-        check_eq(told(&mut d, "P"), (0, 2, 0, 0))?;
-        check_eq(told(&mut d, "P"), (0, 3, 0, 0))?;
-        check_eq(told(&mut d, "C"), (0, 4, 0, 0))?;
+        check_eq(
+            first_wrong(
+                &mut d,
+                &[
+                    ("P", (0, 2, 0, 0)),
+                    ("P", (0, 3, 0, 0)),
+                    ("C", (0, 4, 0, 0)),
+                ],
+            ),
+            None,
+        )?;
         check(all_plain(
             &mut d,
             &[
@@ -407,15 +566,23 @@ mod tests {
                 "E",
             ],
         ))?;
-        check_eq(told(&mut d, "M,4"), (0, 0, 0, 0))?;
-        check_eq(told(&mut d, "S,2"), (0, 0, 0, 0))?;
-        check_eq(told(&mut d, "S,3"), (0, 1, 0, 0))?;
-        check_eq(told(&mut d, "L,0,0,1,0"), (0, 0, 0, 0))?;
-        check_eq(told(&mut d, "U,0,0,0"), (0, 0, 0, 0))?;
-        check_eq(told(&mut d, "V,0,1,0"), (0, 0, 0, 0))?;
-        check_eq(told(&mut d, "O,1,0"), (11, 0, 0, 0))?;
-        check_eq(told(&mut d, "K"), (0, 0, 0, 0))?;
-        check_eq(told(&mut d, "E"), (0, 0, 0, 0))?;
+        check_eq(
+            first_wrong(
+                &mut d,
+                &[
+                    ("M,4", (0, 0, 0, 0)),
+                    ("S,2", (0, 0, 0, 0)),
+                    ("S,3", (0, 1, 0, 0)),
+                    ("L,0,0,1,0", (0, 0, 0, 0)),
+                    ("U,0,0,0", (0, 0, 0, 0)),
+                    ("V,0,1,0", (0, 0, 0, 0)),
+                    ("O,1,0", (11, 0, 0, 0)),
+                    ("K", (0, 0, 0, 0)),
+                    ("E", (0, 0, 0, 0)),
+                ],
+            ),
+            None,
+        )?;
         Ok(())
     }
 }
