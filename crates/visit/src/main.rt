@@ -1,11 +1,12 @@
-//! Reads the domain of a truck's visit to a quarry's weighbridge, line by line, and says what becomes of each line.
+//! Reads the domain of a truck's visit to a quarry's weighbridge, its tasks and methods, line by line, and says what becomes
+//! of each line.
 ghost use mathlib.Core.Path.{_≡_};
 ghost use lib.Dec.{ltb};
 ghost use lib.ListN.{length};
 ghost use Rattle.std.specs.Vec.{made};
 ghost use Rattle.page.specs.Lines.{lines};
-ghost use Rattle.domain.specs.Meaning.{tasks};
-ghost use Rattle.visit.specs.Sessions.{lines-phase, lines-tasks};
+ghost use Rattle.told_domain.specs.Domains.{parts};
+ghost use Rattle.visit.specs.Sessions.{lines-after};
 
 mod session;
 mod telling;
@@ -40,8 +41,7 @@ fn is_too_long(text: &[u8]) -> bool
 ///
 /// Where all could be printed, the domain stands as the lines of the text leave it.
 fn tell_all(rt: &LibcRuntime, session: &mut Session, text: &[u8]) -> io::Result<()>
-    ensures phase { λ r. ⌜ made r (λ _. now (session .exit) .phase ≡ lines-phase (now (session .entry) .phase) (lines (now (text .entry)))) ⌝ }
-    ensures tasks { λ r. ⌜ made r (λ _. tasks (now (session .exit) .tasks) ≡ lines-tasks (now (session .entry) .phase) (tasks (now (session .entry) .tasks)) (lines (now (text .entry)))) ⌝ }
+    ensures { λ r. ⌜ made r (λ _. parts (now (session .exit) .domain) ≡ lines-after (parts (now (session .entry) .domain)) (lines (now (text .entry)))) ⌝ }
 {
     let mut number = 0;
     let mut at = 0;

@@ -1,93 +1,110 @@
 ghost use mathlib.Core.Path.{_≡_};
+ghost use mathlib.Core.Bool.{true};
+ghost use mathlib.Core.List.{[]};
 ghost use Rattle.line.specs.Parse.{parsed};
 ghost use Rattle.page.specs.Answers.{row};
+ghost use Rattle.semantics.specs.Causes.{told};
+ghost use Rattle.semantics.specs.Methods.{blank};
+ghost use Rattle.semantics.specs.Rules.{verdict};
+ghost use Rattle.semantics.specs.States.{next};
 ghost use Rattle.semantics.specs.Tasks.{first-tasks};
-ghost use Rattle.domain.specs.Meaning.{tasks};
-ghost use Rattle.visit.specs.Sessions.{answer-row, command-phase, command-row, command-tasks, ended, later-row, line-phase, line-row, line-tasks, read, reply-row, tasks-after, tasks-row};
-ghost use Rattle.visit.specs.declared.session.Phase.the-variants as standing;
-use crate::session::Phase;
+ghost use Rattle.semantics.specs.declared.phase.Phase.the-variants as at;
+ghost use Rattle.told_domain.specs.Domains.{Parts, parts};
+ghost use Rattle.visit.specs.Sessions.{answer-row, before-plan, command-after, command-row, domain-of, line-after, line-row, read, reply-row, state};
 use crate::session::Reply;
 use crate::session::Session;
 use domain::Kind;
-use domain::Tasks;
 use line::Command;
 use line::parse;
 use page::Answer;
 use page::RefusalAnswer;
+use semantics::Link;
+use semantics::Phase;
+use told_domain::Domain;
+
+/// Whether the plan is not told yet.
+fn is_before_plan(phase: Phase) -> bool
+    ensures { λ r. ⌜ r ≡ before-plan phase ⌝ }
+{
+    match phase {
+        Phase::Tasks | Phase::Methods | Phase::MethodOpen => true,
+        Phase::Initial | Phase::Refine | Phase::Running => false,
+    }
+}
 
 impl Session {
     /// A domain before its first line.
     pub fn open() -> Session
-        ensures phase { λ r. ⌜ r .phase ≡ standing.Tasks ⌝ }
-        ensures tasks { λ r. ⌜ tasks (r .tasks) ≡ first-tasks ⌝ }
+        ensures { λ r. ⌜ parts (r .domain) ≡ record { phase = at.Tasks; tasks = first-tasks; methods = []; draft = blank 0 } ⌝ }
     {
         Session {
-            phase: Phase::Tasks,
-            tasks: Tasks::open(),
+            domain: Domain::open(),
         }
     }
 
     /// Tells one line, given without its break. A refused line changes nothing.
     pub fn tell(&mut self, line: &[u8]) -> Reply
         ensures read { λ r. ⌜ read r ≡ parsed (now (line .entry)) ⌝ }
-        ensures row { λ r. ⌜ reply-row r ≡ line-row (now (self .entry) .phase) (tasks (now (self .entry) .tasks)) (parsed (now (line .entry))) ⌝ }
-        ensures phase { λ _. ⌜ now (self .exit) .phase ≡ line-phase (now (self .entry) .phase) (parsed (now (line .entry))) ⌝ }
-        ensures tasks { λ _. ⌜ tasks (now (self .exit) .tasks) ≡ line-tasks (now (self .entry) .phase) (tasks (now (self .entry) .tasks)) (parsed (now (line .entry))) ⌝ }
+        ensures row { λ r. ⌜ reply-row r ≡ line-row (parts (now (self .entry) .domain)) (parsed (now (line .entry))) ⌝ }
+        ensures after { λ _. ⌜ parts (now (self .exit) .domain) ≡ line-after (parts (now (self .entry) .domain)) (parsed (now (line .entry))) ⌝ }
     {
         match parse(line) {
             Ok(command) => match self.carry_out(command) {
-                Some(answer) => Reply::Told { command, answer },
+                Some(answer) => Reply::Told {
+                    command,
+                    answer,
+                    phase: self.domain.phase(),
+                },
                 None => Reply::Later { command },
             },
             Err(refusal) => Reply::Unread { refusal },
         }
     }
 
-    /// Carries a command out. `None`: the command is of a phase that comes after the tasks.
+    /// Carries a command out. `None`: the command is about the plan.
     fn carry_out(&mut self, command: Command) -> Option<Answer>
-        ensures row { λ r. ⌜ answer-row r ≡ command-row (now (self .entry) .phase) (tasks (now (self .entry) .tasks)) command ⌝ }
-        ensures phase { λ _. ⌜ now (self .exit) .phase ≡ command-phase (now (self .entry) .phase) command ⌝ }
-        ensures tasks { λ _. ⌜ tasks (now (self .exit) .tasks) ≡ command-tasks (now (self .entry) .phase) (tasks (now (self .entry) .tasks)) command ⌝ }
+        ensures row { λ r. ⌜ answer-row r ≡ command-row (parts (now (self .entry) .domain)) command ⌝ }
+        ensures after { λ _. ⌜ parts (now (self .exit) .domain) ≡ command-after (parts (now (self .entry) .domain)) command ⌝ }
     {
-        match self.phase {
-            Phase::Tasks => Some(self.tell_tasks(command)),
-            Phase::Methods => after_tasks(command),
+        if is_before_plan(self.domain.phase()) {
+            Some(self.tell_domain(command))
+        } else {
+            None
         }
     }
 
-    /// A command in phase tasks.
-    fn tell_tasks(&mut self, command: Command) -> Answer
-        requires { ⌜ now self .phase ≡ standing.Tasks ⌝ }
-        ensures row { λ r. ⌜ row r ≡ tasks-row (tasks (now (self .entry) .tasks)) command ⌝ }
-        ensures phase { λ _. ⌜ now (self .exit) .phase ≡ ended command ⌝ }
-        ensures tasks { λ _. ⌜ tasks (now (self .exit) .tasks) ≡ tasks-after (tasks (now (self .entry) .tasks)) command ⌝ }
+    /// A command before the plan is told.
+    fn tell_domain(&mut self, command: Command) -> Answer
+        requires { ⌜ before-plan (parts (now self .domain) .phase) ≡ true ⌝ }
+        ensures row { λ r. ⌜ row r ≡ verdict 64 (state (parts (now (self .entry) .domain))) command ⌝ }
+        ensures after { λ r. ⌜ parts (now (self .exit) .domain) ≡ told (row r) (domain-of (next (state (parts (now (self .entry) .domain))) command)) (parts (now (self .entry) .domain)) ⌝ }
     {
         match command {
-            Command::NewPrimitive => self.tasks.new_task(Kind::Primitive),
-            Command::NewCompound => self.tasks.new_task(Kind::Compound),
-            Command::AppendNeed { task, fact } => self.tasks.append_need(task, fact),
-            Command::AppendAdd { task, fact } => self.tasks.append_add(task, fact),
-            Command::AppendDelete { task, fact } => self.tasks.append_delete(task, fact),
-            Command::EndPhase => {
-                self.phase = Phase::Methods;
-                Answer::Accepted { number: 0 }
-            }
-            _ => Answer::WrongPhase,
+            Command::NewPrimitive => self.domain.new_task(Kind::Primitive),
+            Command::NewCompound => self.domain.new_task(Kind::Compound),
+            Command::AppendNeed { task, fact } => self.domain.append_need(task, fact),
+            Command::AppendAdd { task, fact } => self.domain.append_add(task, fact),
+            Command::AppendDelete { task, fact } => self.domain.append_delete(task, fact),
+            Command::EndPhase => self.domain.end_phase(),
+            Command::OpenMethod { task } => self.domain.open_method(task),
+            Command::NewStep { task } => self.domain.new_step(task),
+            Command::PutOrder { earlier, later } => self.domain.put_order(earlier, later),
+            Command::PutLink {
+                producer,
+                add,
+                consumer,
+                need,
+            } => self.domain.put_link(Link {
+                producer,
+                add,
+                consumer,
+                need,
+            }),
+            Command::RouteNeed { need, step, label } => self.domain.route_need(need, step, label),
+            Command::RouteAdd { add, step, label } => self.domain.route_add(add, step, label),
+            Command::CloseMethod => self.domain.close_method(),
+            Command::Decompose { .. } | Command::Judge | Command::Take { .. } => Answer::WrongPhase,
         }
-    }
-}
-
-/// A command in phase methods: those that tell tasks have no place there, and the others are not carried out yet.
-fn after_tasks(command: Command) -> Option<Answer>
-    ensures { λ r. ⌜ answer-row r ≡ later-row command ⌝ }
-{
-    match command {
-        Command::NewPrimitive
-        | Command::NewCompound
-        | Command::AppendNeed { .. }
-        | Command::AppendAdd { .. }
-        | Command::AppendDelete { .. } => Some(Answer::WrongPhase),
-        _ => None,
     }
 }
 

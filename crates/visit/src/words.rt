@@ -4,7 +4,9 @@ use line::Command;
 use page::Answer;
 use page::RefusalAnswer;
 use page::Row;
+use page::Side;
 use page::line_at;
+use semantics::Phase;
 use std::fmt;
 
 /// Every row fits in a page of this many bytes.
@@ -75,11 +77,15 @@ fn write_row<W: fmt::Write>(answer: Answer, f: &mut fmt::Formatter<W>) -> fmt::R
 fn sentence<W: fmt::Write>(reply: Reply, f: &mut fmt::Formatter<W>) -> fmt::Result {
     match reply {
         Reply::Unread { refusal } => unread(Answer::from(refusal), f),
-        Reply::Told { command, answer } => match answer {
-            Answer::Accepted { number } => accepted(command, number, f),
+        Reply::Told {
+            command,
+            answer,
+            phase,
+        } => match answer {
+            Answer::Accepted { number } => accepted(command, number, phase, f),
             _ => refused(command, answer, f),
         },
-        Reply::Later { .. } => write!(f, "Not carried out: this version stops at the tasks."),
+        Reply::Later { .. } => write!(f, "Not carried out: this version stops before the plan."),
     }
 }
 
@@ -87,6 +93,7 @@ fn sentence<W: fmt::Write>(reply: Reply, f: &mut fmt::Formatter<W>) -> fmt::Resu
 fn accepted<W: fmt::Write>(
     command: Command,
     number: u64,
+    phase: Phase,
     f: &mut fmt::Formatter<W>,
 ) -> fmt::Result {
     match command {
@@ -104,7 +111,47 @@ fn accepted<W: fmt::Write>(
             f,
             "Task {task} deletes fact {fact}, label {number}."
         ),
-        Command::EndPhase => write!(f, "The tasks are complete; the phase is methods."),
+        Command::EndPhase => ended(phase, f),
+        _ => method_accepted(command, number, f),
+    }
+}
+
+/// Which phase begins.
+fn ended<W: fmt::Write>(phase: Phase, f: &mut fmt::Formatter<W>) -> fmt::Result {
+    match phase {
+        Phase::Methods => write!(f, "The tasks are complete; the phase is methods."),
+        _ => write!(f, "The methods are complete; the phase is initial."),
+    }
+}
+
+/// What an accepted command about a method did.
+fn method_accepted<W: fmt::Write>(
+    command: Command,
+    number: u64,
+    f: &mut fmt::Formatter<W>,
+) -> fmt::Result {
+    match command {
+        Command::OpenMethod { task } => write!(f, "Method {number} is opened, for task {task}."),
+        Command::NewStep { task } => write!(f, "Step {number} of the method is of task {task}."),
+        Command::PutOrder { earlier, later } => write!(f, "Step {earlier} is before step {later}."),
+        Command::PutLink {
+            producer,
+            add,
+            consumer,
+            need,
+        } => write!(
+            f,
+            "Add {add} of step {producer} serves need {need} of step {consumer}."
+        ),
+        Command::RouteNeed { need, step, label } => write!(
+            f,
+            "Need {need} of the method's task goes to need {label} of step {step}."
+        ),
+        Command::RouteAdd { add, step, label } => write!(
+            f,
+            "Add {add} of the method's task goes to add {label} of step {step}."
+        ),
+        Command::CloseMethod => write!(f, "The method is closed, and fits its task."),
         _ => write!(f, "Accepted."),
     }
 }
@@ -143,7 +190,11 @@ fn refused<W: fmt::Write>(
         Answer::WrongPhase => wrong_phase(command, f),
         Answer::NoSuchName { field } => nameless(command, field, f),
         Answer::WrongKind => wrong_kind(command, f),
+        Answer::AlreadyGiven => write!(f, "this entry is given already."),
+        Answer::FactsDiffer => write!(f, "the two ends name different facts."),
         Answer::LimitPassed => limit_passed(command, f),
+        Answer::Circle => write!(f, "a step would come before itself."),
+        Answer::EntryMissing { side, label } => missing(side, label, f),
         _ => write!(f, "the rules forbid it."),
     }
 }
@@ -159,7 +210,21 @@ fn wrong_phase<W: fmt::Write>(command: Command, f: &mut fmt::Formatter<W>) -> fm
             f,
             "the letter belongs to phase tasks, which has ended."
         ),
-        _ => write!(f, "the letter belongs to a later phase than tasks."),
+        Command::EndPhase => write!(f, "the open method must be closed first."),
+        Command::OpenMethod { .. } => write!(
+            f,
+            "methods are opened in phase methods, one at a time."
+        ),
+        Command::NewStep { .. }
+        | Command::PutOrder { .. }
+        | Command::PutLink { .. }
+        | Command::RouteNeed { .. }
+        | Command::RouteAdd { .. }
+        | Command::CloseMethod => write!(f, "no method is open."),
+        Command::Decompose { .. } | Command::Judge | Command::Take { .. } => write!(
+            f,
+            "the letter belongs to the plan, which comes later."
+        ),
     }
 }
 
@@ -178,6 +243,63 @@ fn nameless<W: fmt::Write>(command: Command, field: u8, f: &mut fmt::Formatter<W
                 )
             }
         }
+        Command::OpenMethod { task } | Command::NewStep { task } => write!(
+            f,
+            "there is no task {task}."
+        ),
+        Command::PutOrder { earlier, later } => {
+            let step = if field == 1 { earlier } else { later };
+            write!(f, "the method has no step {step}.")
+        }
+        _ => nameless_end(command, field, f),
+    }
+}
+
+/// Which number of a link or of an entry names nothing.
+fn nameless_end<W: fmt::Write>(
+    command: Command,
+    field: u8,
+    f: &mut fmt::Formatter<W>,
+) -> fmt::Result {
+    match (command, field) {
+        (Command::PutLink { producer: s, .. }, 1)
+        | (Command::PutLink { consumer: s, .. }, 3)
+        | (Command::RouteNeed { step: s, .. }, 2)
+        | (Command::RouteAdd { step: s, .. }, 2) => write!(f, "the method has no step {s}."),
+        (
+            Command::PutLink {
+                producer: s,
+                add: k,
+                ..
+            },
+            2,
+        )
+        | (
+            Command::RouteAdd {
+                step: s,
+                label: k,
+                ..
+            },
+            3,
+        ) => write!(f, "step {s} has no add {k}."),
+        (
+            Command::PutLink {
+                consumer: s,
+                need: k,
+                ..
+            },
+            4,
+        )
+        | (
+            Command::RouteNeed {
+                step: s,
+                label: k,
+                ..
+            },
+            3,
+        ) => write!(f, "step {s} has no need {k}."),
+        (Command::RouteNeed { need, .. }, 1) => write!(f, "the method's task has no need {need}."),
+        (Command::RouteAdd { add, .. }, 1) => write!(f, "the method's task has no add {add}."),
         _ => write!(f, "field {field} names nothing."),
     }
 }
@@ -191,6 +313,14 @@ fn wrong_kind<W: fmt::Write>(command: Command, f: &mut fmt::Formatter<W>) -> fmt
             f,
             "init, goal and compound tasks have no deletes, and task {task} is one of them."
         ),
+        Command::OpenMethod { task } => write!(
+            f,
+            "methods are for compound tasks, and task {task} is primitive."
+        ),
+        Command::NewStep { task } => write!(
+            f,
+            "no step is of init or goal, and task {task} is one of them."
+        ),
         _ => write!(f, "the task is of the wrong kind."),
     }
 }
@@ -199,6 +329,17 @@ fn wrong_kind<W: fmt::Write>(command: Command, f: &mut fmt::Formatter<W>) -> fmt
 fn limit_passed<W: fmt::Write>(command: Command, f: &mut fmt::Formatter<W>) -> fmt::Result {
     match command {
         Command::NewPrimitive | Command::NewCompound => write!(f, "there are 32 tasks already."),
+        Command::OpenMethod { .. } => write!(f, "there are 32 methods already."),
+        Command::NewStep { .. } => write!(f, "the method has 8 steps already."),
+        Command::PutLink { .. } => write!(f, "the method has 16 links already."),
         _ => write!(f, "the list has 32 facts already."),
+    }
+}
+
+/// Which entry of the method's task is missing.
+fn missing<W: fmt::Write>(side: Side, label: u8, f: &mut fmt::Formatter<W>) -> fmt::Result {
+    match side {
+        Side::Need => write!(f, "need {label} of the method's task goes nowhere yet."),
+        Side::Add => write!(f, "add {label} of the method's task goes nowhere yet."),
     }
 }
