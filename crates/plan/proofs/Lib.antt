@@ -1,3 +1,5 @@
 mod Downs
 mod Ups
 mod Puts
+mod Sums
+mod Takes

@@ -6,5 +6,8 @@ mod judging;
 mod linking;
 mod ordering;
 mod plan;
+mod progress;
+mod taking;
 
 pub use plan::Plan;
+pub use progress::Progress;
