@@ -1,4 +1,5 @@
--- One turn of a loop over links: what it makes of the found so far.
+-- The parts of the searches of judging: one turn of a loop, or what is found at one step. The rules themselves are in semantics,
+-- and each public function is held to those.
 use mathlib.Core.Bool.{Bool, cond, not, _&&_}
 use Prim.Native.Nat.{ℕ}
 use lib.Dec.{eqb}
@@ -48,7 +49,7 @@ no-producer ls s j = not (is-some (producer ls s j))
 abbrev pub unlinked : List Link → ℕ → ℕ → Option ℕ
 unlinked ls count s = first-such (no-producer ls s) (upfrom 0 count)
 
--- a step with its lowest need that no link goes to
+-- the lowest need of step s that no link goes to
 abbrev pub unlinked-of : List Task → List (Option ℕ) → List Link → ℕ → Option ℕ
 unlinked-of ts os ls s = unlinked ls (length (needs-of (at-task ts (nth os s)))) s
 

@@ -1,3 +1,4 @@
+//! What can be asked of a plan.
 ghost use mathlib.Core.Path.{_≡_};
 ghost use lib.ListN.{length};
 ghost use Rattle.std.specs.Finite.{nth};
@@ -8,7 +9,6 @@ ghost use Rattle.fixed.specs.Items.{items};
 ghost use Rattle.plan.specs.Meaning.{present};
 ghost use Rattle.semantics.specs.OpenLines.{is-step};
 ghost use Rattle.semantics.specs.Plans.{at-task};
-ghost use Rattle.semantics.specs.PlanLines.{producer};
 use crate::Plan;
 use domain::Task;
 use domain::Tasks;

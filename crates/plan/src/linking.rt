@@ -1,3 +1,4 @@
+//! The links of a plan.
 ghost use mathlib.Core.Path.{_≡_};
 ghost use Rattle.fixed.specs.Items.{items};
 ghost use Rattle.semantics.specs.PlanLines.{producer};

@@ -77,7 +77,10 @@ impl Plan {
         None
     }
 
-    /// R: takes a step, by order alone. The facts just after are the answer.
+    /// R: takes a step, by order alone. The facts just after are the answer. A refused step leaves the progress as it was.
+    ///
+    /// Whatever steps the progress stands for in this plan, the answer and the progress after are those of the rules. A progress
+    /// that belongs to another plan stands for no steps of this one, and nothing is said of it.
     pub fn take<K: Keeper>(
         &self,
         keeper: &K,
