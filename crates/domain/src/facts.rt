@@ -8,6 +8,7 @@ use fixed::Fixed;
 /// A list of at most 32 facts, each below 64, and the same facts as the bits of a mask.
 ///
 /// A fact's label is its place in the list. A fact may stand twice.
+#[derive(Clone, Copy)]
 pub struct FactList {
     pub(super) list: Fixed<u8, 32>,
     pub(super) mask: u64,
@@ -15,4 +16,3 @@ pub struct FactList {
     ghost marked: { (f : ℕ) → bit mask f ≡ among f (items list) },
 }
 
-impl Copy for FactList {}

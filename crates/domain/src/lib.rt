@@ -1,6 +1,7 @@
 //! The tasks of a domain: what each needs, adds and deletes, and the lines that tell them.
 //!
 //! Nothing here allocates, and no public function asks anything of its caller.
+#![tactic(auto)]
 mod asking;
 mod facts;
 mod kind;

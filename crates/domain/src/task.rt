@@ -1,6 +1,7 @@
 use crate::{FactList, Kind};
 
 /// A task: its kind, and the facts that it needs, adds and deletes.
+#[derive(Clone, Copy)]
 pub struct Task {
     pub(super) kind: Kind,
     pub(super) needs: FactList,
@@ -8,4 +9,3 @@ pub struct Task {
     pub(super) deletes: FactList,
 }
 
-impl Copy for Task {}

@@ -1,4 +1,6 @@
 //! Lists of at most N things that lie in an array, so that nothing is allocated.
+#![tactic(auto)]
+
 mod access;
 mod list;
 

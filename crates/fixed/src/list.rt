@@ -1,4 +1,6 @@
-ghost use Rattle.std.specs.Prelude.{◌≡◌, ℕ, ◌<◌, ◌≤◌, length};
+ghost use Rattle.std.specs.Prelude.{◌≡◌, ℕ, ◌<◌, ◌≤◌, length, ⊤};
+
+use std::alloc::AllocError;
 
 /// A list of at most N things: the first `count` places of an array. The places after them say nothing.
 pub struct Fixed<T, const N: usize> {
@@ -7,6 +9,16 @@ pub struct Fixed<T, const N: usize> {
     ghost within: { count ≤ N },
     ghost countable: { N < 65536 },
     ghost whole: { length slots ≡ N },
+}
+
+impl<T: Copy, const N: usize> Clone for Fixed<T, N> {
+    ghost is_clone = { λ old new. new ≡ old };
+
+    ghost is_infallible = { λ _. ⊤ };
+
+    fn clone(&self) -> Result<Self, AllocError> {
+        Ok(*self)
+    }
 }
 
 impl<T: Copy, const N: usize> Copy for Fixed<T, N> {}

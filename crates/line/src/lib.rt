@@ -2,6 +2,8 @@
 //!
 //! The fields of a line are parts of it and never copies. Nothing here allocates, and no public function asks anything
 //! of its caller.
+#![tactic(auto)]
+
 mod command;
 mod fields;
 mod laws;

@@ -9,10 +9,10 @@ pub struct Entry {
 }
 
 /// Where the needs or the adds of a method's task go, by their labels: for each at most one entry, to a step below 8.
+#[derive(Clone, Copy)]
 pub struct Entries {
     pub(super) places: [Option<Entry>; 32],
     ghost whole: { length places ≡ 32 },
     ghost small: { (j : ℕ) → entry_step (slice_index_or places j None) < 8 },
 }
 
-impl Copy for Entries {}

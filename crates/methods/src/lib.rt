@@ -1,6 +1,7 @@
 //! Methods, told line by line: their steps, links, order and entries.
 //!
 //! Nothing here allocates, and no public function asks anything of its caller.
+#![tactic(auto)]
 mod asking;
 mod drafting;
 mod entries;

@@ -7,6 +7,7 @@ use semantics::Link;
 
 /// A method: its task, the tasks of its steps, its links, its own order, and where each need and each add of its task
 /// goes. Both ends of each link are numbers below 8.
+#[derive(Clone, Copy)]
 pub struct Method {
     pub(super) task: u8,
     pub(super) steps: Fixed<u8, 8>,
@@ -17,4 +18,3 @@ pub struct Method {
     ghost ends: { SmallEnds (items links) },
 }
 
-impl Copy for Method {}

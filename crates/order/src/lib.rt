@@ -3,6 +3,7 @@
 //! A keeper holds a strict order: which steps are before which. Everything above is written over the trait `Keeper`, once for
 //! every keeper. `BitTable` has a bit for each pair of 64 steps, `PairList` a list of pairs of 32 steps from which the others
 //! follow.
+#![tactic(auto)]
 mod bit_table;
 mod keeper;
 mod operation;

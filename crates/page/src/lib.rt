@@ -1,6 +1,7 @@
 //! The edges of the checker: what a line is answered, the answer as a row on a page, and the lines of a text.
 //!
 //! Nothing here allocates, and no public function asks anything of its caller.
+#![tactic(auto)]
 mod answer;
 mod row;
 mod text;

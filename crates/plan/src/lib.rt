@@ -1,6 +1,7 @@
 //! Plans over any order keeper: steps, links, judging and taking.
 //!
 //! The plan and its keeper are two values, and what only asks for order cannot write the keeper. Nothing here allocates.
+#![tactic(auto)]
 mod asking;
 mod judging;
 mod linking;

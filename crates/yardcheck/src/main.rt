@@ -1,4 +1,5 @@
 //! Prints the rows of the lines on standard input, a row for each line.
+#![tactic(auto)]
 ghost use Rattle.std.specs.Prelude.{◌≡◌, ◌≤◌, [], length, IfOk};
 ghost use Rattle.page.specs.Lines.{lines};
 ghost use Rattle.checker.specs.Runs.{rows_text};

@@ -17,8 +17,8 @@ its-row = refl
 pub returns : goal.returns
 returns c =
     let text = c.args.text.now in
-    let long : leb (length text) 16384 ≡ false = let l = c.if-text-le-MOST-BYTES.false in grind (arith, l) in
-    c.in-ok-extend-from-slice.ensures.items
+    let long : leb (length text) 16384 ≡ false = let l = c.if-text-le-MOST_BYTES.false in grind (arith, l) in
+    c.in_ok-extend_from_slice.ensures.items
     ∙ ap (λ (xs : List ℕ). xs ++ too_long) c.new-row.ensures.items
     ∙ its-row
     ∙ sym (ap (λ (b : Bool). cond b (rows_text 64 [] (lines text)) (row_text (as_row 10 16384 0 0))) long)

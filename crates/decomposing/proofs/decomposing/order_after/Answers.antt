@@ -8,18 +8,18 @@ use Rattle.decomposing.specs.declared.exchange.Exchange.{Exchange}
 use Rattle.decomposing.proofs.Decides.{tried_new}
 use Rattle.decomposing.proofs.decomposing.order_after.Goals as goal
 
-pub returns-then-is-err : goal.returns-then-is-err
-returns-then-is-err g c =
+pub returns-then-is_err : goal.returns-then-is_err
+returns-then-is_err g c =
     let keeper = g.K.Keeper in
     let s = c.args.s in
     let p = plan (keeper.before c.args.keeper.now) c.args.target.now in
     let m = method c.args.m.now in
     let first = c.given-first.result in
-    let e : Exchange = record { leaving = s; first = first; end = first + c.count-steps.result } in
-    let end : first + c.count-steps.result ≡ length p.steps + length m.steps = omega (arith, c.given-first.ensures.value, c.count-steps.ensures.value) in
-    let drops = c.drop-step.ensures ∙ ap (λ (R : Relation). dropped R s) c.copied-next.ensures in
+    let e : Exchange = record { leaving = s; first = first; end = first + c.count_steps.result } in
+    let end : first + c.count_steps.result ≡ length p.steps + length m.steps = omega (arith, c.given-first.ensures.value, c.count_steps.ensures.value) in
+    let drops = c.drop_step.ensures ∙ ap (λ (R : Relation). dropped R s) c.copied-next.ensures in
     tried_new keeper.capacity (tasks c.args.known.now) p s m e (items c.args.after.now.steps) (items c.args.after.now.links) c.requires refl c.given-first.ensures.value end
-    (keeper.before c.drop-step.new.self) (keeper.before c.put-brought.new.next) (is_ok c.put-brought.result) false drops c.if-is-err.ensures.negation c.put-brought.ensures
+    (keeper.before c.drop_step.new.self) (keeper.before c.put_brought.new.next) (is_ok c.put_brought.result) false drops c.if-is_err.ensures.negation c.put_brought.ensures
 
 pub returns : goal.returns
 returns g c =
@@ -28,8 +28,8 @@ returns g c =
     let p = plan (keeper.before c.args.keeper.now) c.args.target.now in
     let m = method c.args.m.now in
     let first = c.given-first.result in
-    let e : Exchange = record { leaving = s; first = first; end = first + c.count-steps.result } in
-    let end : first + c.count-steps.result ≡ length p.steps + length m.steps = omega (arith, c.given-first.ensures.value, c.count-steps.ensures.value) in
-    let drops = c.drop-step.ensures ∙ ap (λ (R : Relation). dropped R s) c.copied-next.ensures in
+    let e : Exchange = record { leaving = s; first = first; end = first + c.count_steps.result } in
+    let end : first + c.count_steps.result ≡ length p.steps + length m.steps = omega (arith, c.given-first.ensures.value, c.count_steps.ensures.value) in
+    let drops = c.drop_step.ensures ∙ ap (λ (R : Relation). dropped R s) c.copied-next.ensures in
     tried_new keeper.capacity (tasks c.args.known.now) p s m e (items c.args.after.now.steps) (items c.args.after.now.links) c.requires refl c.given-first.ensures.value end
-    (keeper.before c.drop-step.new.self) (keeper.before c.put-brought.new.next) (is_ok c.put-brought.result) true drops c.if-is-err.ensures.negation c.put-brought.ensures
+    (keeper.before c.drop_step.new.self) (keeper.before c.put_brought.new.next) (is_ok c.put_brought.result) true drops c.if-is_err.ensures.negation c.put_brought.ensures

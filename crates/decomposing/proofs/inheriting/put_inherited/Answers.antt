@@ -5,8 +5,8 @@ use Rattle.decomposing.proofs.Splits.{old_left, old_more, old_none}
 use Rattle.decomposing.proofs.Tries.{turn_end, turn_more, turn_stop}
 use Rattle.decomposing.proofs.inheriting.put_inherited.Goals as goal
 
-pub returns-in-err-put-row : goal.returns-in-err-put-row
-returns-in-err-put-row g c =
+pub returns-in_err-put_row : goal.returns-in_err-put_row
+returns-in_err-put_row g c =
     let keeper = g.K.Keeper in
     let x = c.loop-x.x in
     let d = c.args.side in
@@ -14,7 +14,7 @@ returns-in-err-put-row g c =
     let s = c.args.places.leaving in
     let ns = numbers c.args.places in
     let os = items c.args.target.now.steps in
-    turn_stop keeper.capacity (keeper.before c.loop-x.next) (keeper.before c.put-row.new.next) (inherited_by d R s os x ns) (old_left d R s ns os (x)) (old_left d R s ns os (x + 1)) _ c.from-residual.result (old_more d R s ns os x (omega (arith, c.given-x-end.ensures.value))) c.loop-x.invariant c.from-residual.ensures.0 c.in-err-put-row.ensures
+    turn_stop keeper.capacity (keeper.before c.loop-x.next) (keeper.before c.put_row.new.next) (inherited_by d R s os x ns) (old_left d R s ns os (x)) (old_left d R s ns os (x + 1)) _ c.from_residual.result (old_more d R s ns os x (omega (arith, c.given-x-end.ensures.value))) c.loop-x.invariant c.from_residual.ensures.0 c.in_err-put_row.ensures
 
 pub loop-x-preserved : goal.loop-x-preserved
 loop-x-preserved g c =
@@ -25,7 +25,7 @@ loop-x-preserved g c =
     let s = c.args.places.leaving in
     let ns = numbers c.args.places in
     let os = items c.args.target.now.steps in
-    turn_more keeper.capacity (keeper.before c.loop-x.next) (keeper.before c.put-row.new.next) (inherited_by d R s os x ns) (old_left d R s ns os (x)) (old_left d R s ns os (x + 1)) _ (old_more d R s ns os x (omega (arith, c.given-x-end.ensures.value))) c.loop-x.invariant c.in-ok-put-row.ensures
+    turn_more keeper.capacity (keeper.before c.loop-x.next) (keeper.before c.put_row.new.next) (inherited_by d R s os x ns) (old_left d R s ns os (x)) (old_left d R s ns os (x + 1)) _ (old_more d R s ns os x (omega (arith, c.given-x-end.ensures.value))) c.loop-x.invariant c.in_ok-put_row.ensures
 
 pub returns : goal.returns
 returns g c =

@@ -4,19 +4,19 @@ use Rattle.decomposing.proofs.Splits.{each_left, each_more, each_none}
 use Rattle.decomposing.proofs.Tries.{turn_end, turn_more, turn_stop}
 use Rattle.decomposing.proofs.inheriting.put_with_each.Goals as goal
 
-pub returns-in-err-put-beside : goal.returns-in-err-put-beside
-returns-in-err-put-beside g c =
+pub returns-in_err-put_beside : goal.returns-in_err-put_beside
+returns-in_err-put_beside g c =
     let keeper = g.K.Keeper in
     let y = c.loop-y.y in
     let e = c.args.places.end in
-    turn_stop keeper.capacity (keeper.before c.loop-y.next) (keeper.before c.put-beside.new.next) (facing c.args.side ((c.args.x, y) ∷ [])) (each_left c.args.side c.args.x e (y)) (each_left c.args.side c.args.x e (y + 1)) _ c.from-residual.result (each_more c.args.side c.args.x e y c.loop-y-test.true) c.loop-y.invariant c.from-residual.ensures.0 c.in-err-put-beside.ensures
+    turn_stop keeper.capacity (keeper.before c.loop-y.next) (keeper.before c.put_beside.new.next) (facing c.args.side ((c.args.x, y) ∷ [])) (each_left c.args.side c.args.x e (y)) (each_left c.args.side c.args.x e (y + 1)) _ c.from_residual.result (each_more c.args.side c.args.x e y c.loop-y-test.true) c.loop-y.invariant c.from_residual.ensures.0 c.in_err-put_beside.ensures
 
 pub loop-y-preserved : goal.loop-y-preserved
 loop-y-preserved g c =
     let keeper = g.K.Keeper in
     let y = c.loop-y.y in
     let e = c.args.places.end in
-    turn_more keeper.capacity (keeper.before c.loop-y.next) (keeper.before c.put-beside.new.next) (facing c.args.side ((c.args.x, y) ∷ [])) (each_left c.args.side c.args.x e (y)) (each_left c.args.side c.args.x e (y + 1)) _ (each_more c.args.side c.args.x e y c.loop-y-test.true) c.loop-y.invariant c.in-ok-put-beside.ensures
+    turn_more keeper.capacity (keeper.before c.loop-y.next) (keeper.before c.put_beside.new.next) (facing c.args.side ((c.args.x, y) ∷ [])) (each_left c.args.side c.args.x e (y)) (each_left c.args.side c.args.x e (y + 1)) _ (each_more c.args.side c.args.x e y c.loop-y-test.true) c.loop-y.invariant c.in_ok-put_beside.ensures
 
 pub returns : goal.returns
 returns g c =

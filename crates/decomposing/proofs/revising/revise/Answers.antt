@@ -8,5 +8,5 @@ use Rattle.decomposing.proofs.revising.revise.Goals as goal
 
 pub returns : goal.returns
 returns c =
-    revises c.args.numbers (plan nothing c.args.target.now) c.args.s (method c.args.m.now) c.given-first.result (items c.steps_after.result) c.in-ok-links.links
-    c.given-first.ensures.value (omega (arith, c.count-steps.ensures.value)) c.steps_after.ensures c.in-ok-links.ensures
+    revises c.args.numbers (plan nothing c.args.target.now) c.args.s (method c.args.m.now) c.given-first.result (items c.steps_after.result) c.in_ok-links.links
+    c.given-first.ensures.value (omega (arith, c.count_steps.ensures.value)) c.steps_after.ensures c.in_ok-links.ensures

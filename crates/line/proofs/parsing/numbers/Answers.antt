@@ -5,7 +5,7 @@ use Rattle.line.proofs.parsing.numbers.Goals as goal
 
 pub loop-field-init : goal.loop-field-init
 loop-field-init g c =
-    rw c.into-iter-field-iterator.ensures.into-iter-gives (start _ _ _ (omega arith) (omega (arith, c.remaining-count.ensures.value)))
+    rw c.into_iter-field-iterator.ensures.into_iter_gives (start _ _ _ (omega arith) (omega (arith, c.remaining-count.ensures.value)))
 
 pub loop-field-preserved : goal.loop-field-preserved
 loop-field-preserved g c =

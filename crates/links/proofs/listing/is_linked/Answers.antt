@@ -6,16 +6,16 @@ use Rattle.links.proofs.listing.is_linked.Goals as goal
 abbrev nothing : Link
 nothing = record { producer = 0; add = 0; consumer = 0; goal = 0 }
 
-pub returns-then-is-same : goal.returns-then-is-same
-returns-then-is-same c =
+pub returns-then-is_same : goal.returns-then-is_same
+returns-then-is_same c =
     let d = drop-cons c.args.links.now c.loop-k.k-index nothing c.loop-k-test.true in
-    grind (arith, c.loop-k.invariant, d, c.if-is-same.ensures)
+    grind (arith, c.loop-k.invariant, d, c.if-is_same.ensures)
 
 pub loop-k-preserved : goal.loop-k-preserved
 loop-k-preserved c =
     let d = drop-cons c.args.links.now c.loop-k.k-index nothing c.loop-k-test.true in
     let e : suc c.loop-k.k-index ≡ c.loop-k.k-index + 1 = omega arith in
-    grind (arith, c.loop-k.invariant, d, e, c.if-is-same.ensures)
+    grind (arith, c.loop-k.invariant, d, e, c.if-is_same.ensures)
 
 pub returns : goal.returns
 returns c =

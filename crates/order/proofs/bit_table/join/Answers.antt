@@ -12,7 +12,7 @@ loop-x-preserved c =
     let old = c.args.rows.now in
     let x = c.loop-x.x in
     let long : x < length c.loop-x.rows = omega (arith, c.loop-x.invariant.0) in
-    mapped_more f old c.loop-x.rows x _ long c.loop-x.invariant c.grown-row.ensures
+    mapped_more f old c.loop-x.rows x _ long c.loop-x.invariant c.grown_row.ensures
 
 pub returns : goal.returns
 returns c =

@@ -8,7 +8,7 @@ use Rattle.order.proofs.pair_list.reach.Goals as goal
 pub loop-count-init : goal.loop-count-init
 loop-count-init c =
     let ps = take c.args.count c.args.pairs.now in
-    (c.only-seen.type-inv, lit< tt, subst (λ (m : ℕ). Reaching ps c.args.a m 0) (sym c.only-seen.ensures) (reaching_none ps c.args.a))
+    (c.only-seen.type_inv, lit< tt, subst (λ (m : ℕ). Reaching ps c.args.a m 0) (sym c.only-seen.ensures) (reaching_none ps c.args.a))
 
 pub loop-count-preserved : goal.loop-count-preserved
 loop-count-preserved c =
@@ -18,8 +18,8 @@ loop-count-preserved c =
     let inv = c.loop-count.invariant in
     let step = c.lowest-step.result in
     let here = to_follow ps c.args.a seen followed inv.2 step inv.0 inv.1 c.lowest-step.ensures.has in (
-      or_lt 64 seen c.targets-seen.result inv.0 c.targets-seen.type-inv,
-      or_lt 64 followed c.only-followed.result inv.1 c.only-followed.type-inv,
+      or_lt 64 seen c.targets-seen.result inv.0 c.targets-seen.type_inv,
+      or_lt 64 followed c.only-followed.result inv.1 c.only-followed.type_inv,
       subst (λ (m : ℕ). Reaching ps c.args.a (bit_or seen c.targets-seen.result) (bit_or followed m)) (sym c.only-followed.ensures)
           (reaching_more ps c.args.a seen followed inv.2 step c.targets-seen.result here.0 c.targets-seen.ensures),
     )
@@ -34,7 +34,7 @@ loop-count-smaller c =
     let more : followed < bit_or followed c.only-followed.result = subst (λ (m : ℕ). followed < bit_or followed m) (sym c.only-followed.ensures) (or_more followed step here.1) in
     omega (arith, more, inv.1)
 
-pub returns-then-to-follow-eq0 : goal.returns-then-to-follow-eq0
-returns-then-to-follow-eq0 c =
+pub returns-then-to_follow-eq0 : goal.returns-then-to_follow-eq0
+returns-then-to_follow-eq0 c =
     let inv = c.loop-count.invariant in
-    reached (take c.args.count c.args.pairs.now) c.args.a c.loop-count.seen c.loop-count.followed inv.2 inv.0 inv.1 c.if-to-follow-eq0.true
+    reached (take c.args.count c.args.pairs.now) c.args.a c.loop-count.seen c.loop-count.followed inv.2 inv.0 inv.1 c.if-to_follow-eq0.true

@@ -12,5 +12,5 @@ pub loop-i-preserved : goal.loop-i-preserved
 loop-i-preserved c =
     let ps = c.args.pairs.now in
     let i = c.loop-i.i in
-    subst (λ (l : List (ℕ × ℕ)). (y : ℕ) → bit c.with-target-found.result y ≡ leads l c.args.a y) (sym (take_more ps i (0, 0) (omega arith)))
-    (targets_more (take i ps) (get_or ps i (0, 0)) c.loop-i.found c.with-target-found.result c.args.a c.loop-i.invariant c.with-target-found.ensures)
+    subst (λ (l : List (ℕ × ℕ)). (y : ℕ) → bit c.with_target-found.result y ≡ leads l c.args.a y) (sym (take_more ps i (0, 0) (omega arith)))
+    (targets_more (take i ps) (get_or ps i (0, 0)) c.loop-i.found c.with_target-found.result c.args.a c.loop-i.invariant c.with_target-found.ensures)

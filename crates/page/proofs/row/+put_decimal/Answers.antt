@@ -6,14 +6,14 @@ use Rattle.page.proofs.row.+put_decimal.Goals as goal
 pub bounds-page-at : goal.bounds-page-at
 bounds-page-at t c = omega (arith, length_digit c.args.n (omega arith))
 
-pub put-decimal-end-requires : goal.put-decimal-end-requires
-put-decimal-end-requires t c = (omega arith, omega (arith, length_step c.args.n (omega arith) (omega arith)))
+pub put_decimal-end-requires : goal.put_decimal-end-requires
+put_decimal-end-requires t c = (omega arith, omega (arith, length_step c.args.n (omega arith) (omega arith)))
 
 pub bounds-page-end : goal.bounds-page-end
-bounds-page-end t c = omega (arith, length_step c.args.n (omega arith) (omega arith), c.put-decimal-end.ensures.place)
+bounds-page-end t c = omega (arith, length_step c.args.n (omega arith) (omega arith), c.put_decimal-end.ensures.place)
 
 pub overflow-add-result-else-n-lt10 : goal.overflow-add-result-else-n-lt10
-overflow-add-result-else-n-lt10 t c = omega (arith, length_step c.args.n (omega arith) (omega arith), c.put-decimal-end.ensures.place)
+overflow-add-result-else-n-lt10 t c = omega (arith, length_step c.args.n (omega arith) (omega arith), c.put_decimal-end.ensures.place)
 
 pub returns-then-n-lt10 : goal.returns-then-n-lt10
 returns-then-n-lt10 t c =
@@ -24,6 +24,6 @@ pub returns-else-n-lt10 : goal.returns-else-n-lt10
 returns-else-n-lt10 t c =
     let long = length_step c.args.n (omega arith) (omega arith) in
     record {
-      page = written_step c.args.page.now c.args.at c.args.n c.put-decimal-end.result c.put-decimal-end.new.page (omega arith) (omega arith) (omega arith) c.put-decimal-end.ensures.page c.put-decimal-end.ensures.place;
-      place = omega (arith, c.put-decimal-end.ensures.place);
+      page = written_step c.args.page.now c.args.at c.args.n c.put_decimal-end.result c.put_decimal-end.new.page (omega arith) (omega arith) (omega arith) c.put_decimal-end.ensures.page c.put_decimal-end.ensures.place;
+      place = omega (arith, c.put_decimal-end.ensures.place);
     }

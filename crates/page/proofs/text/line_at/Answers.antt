@@ -8,16 +8,16 @@ returns-then-at-text c = record { line = line_none c.args.text.now c.args.at (se
 
 pub returns-then-feed-text : goal.returns-then-feed-text
 returns-then-feed-text c =
-    let whole = line_last c.args.text.now c.args.at c.line-feed-feed.result (search rules) (search rules) c.line-feed-feed.ensures.before in
+    let whole = line_last c.args.text.now c.args.at c.line_feed-feed.result (search rules) (search rules) c.line_feed-feed.ensures.before in
     record { line = search rules; next = search rules }
 
 pub returns-then-text-feed-eq13 : goal.returns-then-text-feed-eq13
 returns-then-text-feed-eq13 c =
-    let cut = line_crlf c.args.text.now c.args.at c.line-feed-feed.result (search rules) (search rules) (search rules) c.line-feed-feed.ensures.before (search rules) in
+    let cut = line_crlf c.args.text.now c.args.at c.line_feed-feed.result (search rules) (search rules) (search rules) c.line_feed-feed.ensures.before (search rules) in
     record { line = search rules; next = search rules }
 
 pub returns : goal.returns
 returns c =
-    let cut = line_lf c.args.text.now c.args.at c.line-feed-feed.result (search rules) (search rules) (search rules) c.line-feed-feed.ensures.before
+    let cut = line_lf c.args.text.now c.args.at c.line_feed-feed.result (search rules) (search rules) (search rules) c.line_feed-feed.ensures.before
     (λ h e. elim c.else-feed-at.branch [ else-feed-at-via-then-feed-at+else-text-feed-eq13 w ↦ w.if-text-feed-eq13.false e | else-feed-at-via-else-feed-at w ↦ omega (arith, w.if-feed-at.false) ]) in
     record { line = search rules; next = search rules }

@@ -21,9 +21,9 @@ returns-in-Initial g c =
     by_plan n h w (NewStep t) tt (plan_step h.plan t) (plan (g.K.Keeper.before c.new_step.new.keeper) c.new_step.new.self)
     (λ taken reached. let l = plan_step_line n h w t taken (sym c.in-Initial.ensures) in (e.answer ∙ ap (λ (ts : List Task). first_of (step_causes ts (length h.plan.steps) n t) (length h.plan.steps)) c.tasks.ensures ∙ l.0, l.1, e.after reached.suits))
 
-pub returns-in-default : goal.returns-in-default
-returns-in-default g c =
+pub returns-in_default : goal.returns-in_default
+returns-in_default g c =
     let n = g.K.Keeper.capacity in
     let h = held (g.K.Keeper.before c.args.self.now.keeper) c.args.self.now in
-    let w = row c.new-step-in-default.result in
-    draft_step_line n h w c.args.task _ (λ p. c.in-default.not-Initial (c.phase.ensures ∙ p)) c.new-step-in-default.ensures.answer c.new-step-in-default.ensures.after
+    let w = row c.new_step-in_default.result in
+    draft_step_line n h w c.args.task _ (λ p. c.in_default.not-Initial (c.phase.ensures ∙ p)) c.new_step-in_default.ensures.answer c.new_step-in_default.ensures.after

@@ -12,23 +12,23 @@ pub returns-in-Initial : goal.returns-in-Initial
 returns-in-Initial g c =
     let n = g.K.Keeper.capacity in
     let h = held (g.K.Keeper.before c.args.self.now.keeper) c.args.self.now in
-    let w = row c.put-order.result in
+    let w = row c.put_order.result in
     let a = c.args.earlier in
     let b = c.args.later in
     let before = h.plan.before in
     let open-now : PlanOpen h.domain.phase = ⊎_elim (λ e. inl (sym c.phase.ensures ∙ e)) (λ e. inr (sym c.phase.ensures ∙ e)) c.in-Initial.is in
-    by_plan n h w (PutOrder a b) tt (plan_order h.plan a b) (plan (g.K.Keeper.before c.put-order.new.keeper) c.args.self.now.plan)
+    by_plan n h w (PutOrder a b) tt (plan_order h.plan a b) (plan (g.K.Keeper.before c.put_order.new.keeper) c.args.self.now.plan)
     (λ taken reached.
     let l = plan_order_line n h w a b taken open-now in (
-      c.put-order.ensures.answer reached.suits.room ∙ l.0,
+      c.put_order.ensures.answer reached.suits.room ∙ l.0,
       l.1,
-      ap (λ (R : Relation). plan R c.args.self.now.plan) c.put-order.ensures.after ∙ told_before w h.plan.steps h.plan.links before (put before a b),
+      ap (λ (R : Relation). plan R c.args.self.now.plan) c.put_order.ensures.after ∙ told_before w h.plan.steps h.plan.links before (put before a b),
     ))
 
-pub returns-in-default : goal.returns-in-default
-returns-in-default g c =
+pub returns-in_default : goal.returns-in_default
+returns-in_default g c =
     let n = g.K.Keeper.capacity in
     let h = held (g.K.Keeper.before c.args.self.now.keeper) c.args.self.now in
-    draft_order_line n h (row c.put-order-in-default.result) c.args.earlier c.args.later _
-    (⊎_elim (λ e. c.in-default.not-Initial (c.phase.ensures ∙ e)) (λ e. c.in-default.not-Refine (c.phase.ensures ∙ e)))
-    c.put-order-in-default.ensures.answer c.put-order-in-default.ensures.after
+    draft_order_line n h (row c.put_order-in_default.result) c.args.earlier c.args.later _
+    (⊎_elim (λ e. c.in_default.not-Initial (c.phase.ensures ∙ e)) (λ e. c.in_default.not-Refine (c.phase.ensures ∙ e)))
+    c.put_order-in_default.ensures.answer c.put_order-in_default.ensures.after

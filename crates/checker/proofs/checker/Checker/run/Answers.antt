@@ -10,12 +10,12 @@ loop-next-init g c = (omega arith, omega arith, λ past means. start g.K.Keeper.
 pub loop-next-preserved : goal.loop-next-preserved
 loop-next-preserved g c = (
   omega (arith, c.in-Some.ensures.next),
-  omega (arith, c.answer-on-written.ensures.within, c.loop-next.auto.page),
+  omega (arith, c.answer_on-written.ensures.within, c.loop-next.auto.page),
   λ past means.
       let so = c.loop-next.invariant.2 past means in
       turn g.K.Keeper.capacity past c.args.text.now c.args.page.now c.loop-next.next c.loop-next.written c.loop-next.page _ so
-      c.in-Some.line.text.now c.in-Some.line.next c.answer-on-written.result c.answer-on-written.new.page _ c.in-Some.ensures.line (sym c.has-room.ensures ∙ c.loop-next-test.true)
-      (c.answer-on-written.ensures.told (after_lines past (texts so.told)) so.means),
+      c.in-Some.line.text.now c.in-Some.line.next c.answer_on-written.result c.answer_on-written.new.page _ c.in-Some.ensures.line (sym c.has_room.ensures ∙ c.loop-next-test.true)
+      (c.answer_on-written.ensures.told (after_lines past (texts so.told)) so.means),
 )
 
 pub loop-next-smaller : goal.loop-next-smaller
@@ -28,15 +28,15 @@ returns-after-loop-next g c =
       within = (c.loop-next.invariant.0, c.loop-next.invariant.1);
       runs = λ past means.
           no_room g.K.Keeper.capacity past c.args.text.now c.args.page.now c.loop-next.next c.loop-next.written c.loop-next.page _ (c.loop-next.invariant.2 past means)
-          few.0 few.1 (sym c.has-room.ensures ∙ c.loop-next-test.false);
+          few.0 few.1 (sym c.has_room.ensures ∙ c.loop-next-test.false);
     }
 
-pub returns-in-default : goal.returns-in-default
-returns-in-default g c =
+pub returns-in_default : goal.returns-in_default
+returns-in_default g c =
     let few = g.met.K.Keeper.few in
     record {
       within = (c.loop-next.invariant.0, c.loop-next.invariant.1);
       runs = λ past means.
           no_line g.K.Keeper.capacity past c.args.text.now c.args.page.now c.loop-next.next c.loop-next.written c.loop-next.page _ (c.loop-next.invariant.2 past means)
-          few.0 few.1 c.in-default.ensures.line;
+          few.0 few.1 c.in_default.ensures.line;
     }

@@ -3,7 +3,7 @@ use Rattle.semantics.specs.Facts.{among}
 use Rattle.masks.proofs.Bits.{bit_zero}
 use Rattle.domain.proofs.facts.FactList.new.Goals as goal
 
-pub invariant-of-result : goal.invariant-of-result
-invariant-of-result c =
+pub invariant_of-result : goal.invariant_of-result
+invariant_of-result c =
     let none = c.new.ensures in
     ((λ f h. let w : ⊥ = grind (arith, none) in absurd w), ((λ f. bit_zero f ∙ sym (ap (among f) none)), tt))

@@ -6,13 +6,13 @@ use Rattle.masks.proofs.Bits.{bit-or, bit_pow}
 use Rattle.domain.proofs.Lists.{among_push}
 use Rattle.domain.proofs.facts.FactList.push.Goals as goal
 
-pub invariant-of-self : goal.invariant-of-self
-invariant-of-self c =
+pub invariant_of-self : goal.invariant_of-self
+invariant_of-self c =
     let self = c.args.self.now in
     let fact = c.args.fact in
     let more : items c.push.new.self ≡ items self.list ++ (fact ∷ []) = search rules in
     let joined : (g : ℕ) → bit (bit_or self.mask c.only.result) g ≡ (bit self.mask g || eqb fact g) =
-    λ g. ap (λ m. bit (bit_or self.mask m) g) c.only.ensures ∙ bit-or self.mask (2 ^ fact) g ∙ ap (λ b. bit self.mask g || b) (bit_pow fact g) in (
+    λ g. ap (λ m. bit (bit_or self.mask m) g) c.only.ensures ∙ bit_or self.mask (2 ^ fact) g ∙ ap (λ b. bit self.mask g || b) (bit_pow fact g) in (
       (λ g h. let p = among_push g (items self.list) fact in let s = self.small g in grind (arith, more, c.requires)),
       ((λ g. let p = among_push g (items self.list) fact in let s = self.marked g in let j = joined g in grind (arith, more)), tt),
     )

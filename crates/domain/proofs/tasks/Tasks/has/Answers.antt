@@ -8,4 +8,4 @@ pub returns : goal.returns
 returns c =
     let kept = there_mapped (λ (x : Bor Task). task x.now) c.task.result in
     let there = nth_there (tasks c.args.self.now) c.args.t in
-    cc (c.task.ensures, c.is-some.ensures)
+    cc (c.task.ensures, c.is_some.ensures)

@@ -4,8 +4,8 @@ use Rattle.fixed.specs.Items.{items}
 use Rattle.domain.specs.Meaning.{task}
 use Rattle.domain.proofs.tasks.Tasks.new_task.Goals as goal
 
-pub returns-then-number-ge-MOST-TASKS : goal.returns-then-number-ge-MOST-TASKS
-returns-then-number-ge-MOST-TASKS c =
+pub returns-then-number-ge-MOST_TASKS : goal.returns-then-number-ge-MOST_TASKS
+returns-then-number-ge-MOST_TASKS c =
     let long = length-map (items c.args.self.now.list) task in
     record { answer = grind (arith, long, c.len-number.ensures.value); after = refl }
 

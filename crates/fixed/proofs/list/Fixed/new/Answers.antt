@@ -3,8 +3,8 @@ use Rattle.std.proofs.lemmas.List.{length-replicate}
 use Rattle.fixed.specs.Items.{items}
 use Rattle.fixed.proofs.list.Fixed.new.Goals as goal
 
-pub invariant-of-result : goal.invariant-of-result
-invariant-of-result g c = (omega arith, (c.requires, (length-replicate g.row.N c.args.blank, tt)))
+pub invariant_of-result : goal.invariant_of-result
+invariant_of-result g c = (omega arith, (c.requires, (length-replicate g.row.N c.args.blank, tt)))
 
 pub returns : goal.returns
 unfolding items

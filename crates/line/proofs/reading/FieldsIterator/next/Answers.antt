@@ -6,7 +6,7 @@ use Rattle.std.proofs.iter.Next.{firm}
 
 pub returns-in-Some : goal.returns-in-Some
 returns-in-Some c =
-    let cut = left_comma _ _ _ _ _ (search rules) c.in-Some.ensures c.split-at.ensures.front c.split-at.ensures.back in
+    let cut = left_comma _ _ _ _ _ (search rules) c.in-Some.ensures c.split_at.ensures.front c.split_at.ensures.back in
     record {
       steps = record { field = sym (ap (first_field _) cut); after = sym (ap later_fields cut); to = sym (ap (later_place _) cut) };
       goes = firm ((tt, tt, omega (arith, ap length cut))) (λ h. search rules);

@@ -5,8 +5,8 @@ use Rattle.methods.proofs.entries.Entries.new.Goals as goal
 use Rattle.methods.specs.Places.{going, place}
 use Rattle.methods.specs.declared.entries.Entry.{Entry}
 
-pub invariant-of-result : goal.invariant-of-result
-invariant-of-result c = (refl, (blank_small 32, tt))
+pub invariant_of-result : goal.invariant_of-result
+invariant_of-result c = (refl, (blank_small 32, tt))
 
 pub returns : goal.returns
 unfolding going

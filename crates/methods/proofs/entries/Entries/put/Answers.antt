@@ -4,8 +4,8 @@ use Rattle.methods.proofs.Labels.{mapped_cond, set_at, set_small}
 use Rattle.methods.proofs.entries.Entries.put.Goals as goal
 use Rattle.methods.specs.Places.{going, place}
 
-pub invariant-of-self : goal.invariant-of-self
-invariant-of-self c =
+pub invariant_of-self : goal.invariant_of-self
+invariant_of-self c =
     let self = c.args.self.now in
     let whole = length-set self.places c.args.label (Some c.args.entry) ∙ self.whole in
     (whole, (set_small self.places c.args.label c.args.entry (omega (arith, self.whole, c.requires)) c.requires.1 self.small, tt))

@@ -6,4 +6,4 @@ use Rattle.methods.proofs.method.Method.has_step.Goals as goal
 pub returns : goal.returns
 returns c =
     let there = step_there (items c.args.self.now.steps) c.args.s in
-    record { step = cc (c.get.ensures.item, c.is-some.ensures); small = λ h. c.get.ensures.bound (cc (c.is-some.ensures, h)) }
+    record { step = cc (c.get.ensures.item, c.is_some.ensures); small = λ h. c.get.ensures.bound (cc (c.is_some.ensures, h)) }

@@ -17,10 +17,10 @@ returns-in-Some c =
 pub returns : goal.returns
 returns c =
     let m = method c.args.self.now in
-    let from = c.is-primitive-step-from in
-    let to = c.is-primitive-step-to in
+    let from = c.is_primitive_step-from in
+    let to = c.is_primitive_step-to in
     let ordered = ap₂ ◌&&◌ from.ensures to.ensures in
     record {
-      answer = c.tie.ensures.answer ∙ link_passed (tasks c.args.known.now) (map Some m.steps) m.links m.before 16 c.args.link (from.result && to.result) ordered c.in-default.ensures.refusal;
+      answer = c.tie.ensures.answer ∙ link_passed (tasks c.args.known.now) (map Some m.steps) m.links m.before 16 c.args.link (from.result && to.result) ordered c.in_default.ensures.refusal;
       after = c.tie.ensures.after ∙ ap (λ b. told (row c.tie.result) (linked_in m c.args.link b) m) ordered;
     }

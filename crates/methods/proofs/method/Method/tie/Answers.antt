@@ -2,7 +2,7 @@ use Rattle.fixed.specs.Items.{items}
 use Rattle.methods.proofs.Ends.{small_with}
 use Rattle.methods.proofs.method.Method.tie.Goals as goal
 
-pub invariant-of-self-2 : goal.invariant-of-self-2
-invariant-of-self-2 c =
+pub invariant_of-self-2 : goal.invariant_of-self-2
+invariant_of-self-2 c =
     let self = c.args.self.now in
     (small_with (items c.join.new.links) (items self.links) c.args.l _ c.join.ensures c.requires.0 c.requires.1 self.ends, tt)

@@ -4,8 +4,8 @@ use Rattle.methods.proofs.small_order.SmallOrder.new.Goals as goal
 use Rattle.methods.specs.Rows.{marks}
 use Rattle.methods.specs.SmallOrders.{before}
 
-pub invariant-of-result : goal.invariant-of-result
-invariant-of-result c = (∣ none_strict (marks (replicate 8 0)) none_marked ∣₁, (none_within 8 (marks (replicate 8 0)) none_marked, tt))
+pub invariant_of-result : goal.invariant_of-result
+invariant_of-result c = (∣ none_strict (marks (replicate 8 0)) none_marked ∣₁, (none_within 8 (marks (replicate 8 0)) none_marked, tt))
 
 pub returns : goal.returns
 unfolding before

@@ -17,15 +17,15 @@ record Free (R : Relation) (a b : ℕ) : Type 0 where
 free : (R : Relation) (a b : ℕ) → false ≡ refused R a b → Free R a b
 free R a b h = record { small-a = grind arith; small_b = grind arith; apart = λ e. grind arith; back = λ k. grind arith }
 
-pub invariant-of-self : goal.invariant-of-self
+pub invariant_of-self : goal.invariant_of-self
 unfolding before
-invariant-of-self c =
+invariant_of-self c =
     let self = c.args.self.now in
     let old = marks self.rows in
     let a = c.args.a in
     let b = c.args.b in
     let f = free old a b c.if-refuses.ensures in
-    let e = put_is self.rows c.grow-all.new.rows a b f.small-a f.small_b self.within c.grow-all.ensures in (
+    let e = put_is self.rows c.grow_all.new.rows a b f.small-a f.small_b self.within c.grow_all.ensures in (
       ∥∥₁_map self.strict (λ s. subst Strict (sym e) (put_strict old a b s f.apart f.back)),
       (subst (Within 8) (sym e) (put_within 8 old a b f.small-a f.small_b self.within), tt),
     )
@@ -37,5 +37,5 @@ returns c =
     let f = free (marks self.rows) c.args.a c.args.b c.if-refuses.ensures in
     record {
       answer = grind (arith, c.if-refuses.ensures);
-      after = put_is self.rows c.grow-all.new.rows c.args.a c.args.b f.small-a f.small_b self.within c.grow-all.ensures;
+      after = put_is self.rows c.grow_all.new.rows c.args.a c.args.b f.small-a f.small_b self.within c.grow_all.ensures;
     }

@@ -3,8 +3,8 @@ use Rattle.order.specs.Ordered.{dropped_past, order_from}
 use Rattle.order.proofs.Tables.{table_dropped, table_dropped_order}
 use Rattle.order.proofs.bit_table.BitTableKeeper.drop_step.Goals as goal
 
-pub invariant-of-self : goal.invariant-of-self
-invariant-of-self c =
+pub invariant_of-self : goal.invariant_of-self
+invariant_of-self c =
     let old = c.args.self.now.rows in
     (∣ table_dropped_order old c.prune.new.rows (order_from 64 (marks old) c.args.self.now.ok) c.args.a c.if-a-lt64.true c.prune.ensures ∣₁, tt)
 

@@ -5,8 +5,8 @@ use Rattle.order.proofs.Tables.{table_nothing}
 use Rattle.order.proofs.bit_table.BitTableKeeper.new.Goals as goal
 use Rattle.semantics.specs.Orders.{Relation}
 
-pub invariant-of-result : goal.invariant-of-result
-invariant-of-result c = (∣ subst (λ (R : Relation). Order 64 R) (sym (table_nothing c.no-rows.result c.no-rows.ensures)) (order_nothing 64) ∣₁, tt)
+pub invariant_of-result : goal.invariant_of-result
+invariant_of-result c = (∣ subst (λ (R : Relation). Order 64 R) (sym (table_nothing c.no_rows.result c.no_rows.ensures)) (order_nothing 64) ∣₁, tt)
 
 pub returns : goal.returns
-returns c = table_nothing c.no-rows.result c.no-rows.ensures
+returns c = table_nothing c.no_rows.result c.no_rows.ensures

@@ -2,8 +2,8 @@ use Rattle.std.proofs.Common.{refl, zero-le}
 use Rattle.order.specs.Lists.{closure_none, stored_none}
 use Rattle.order.proofs.pair_list.PairList.empty.Goals as goal
 
-pub invariant-of-result : goal.invariant-of-result
-invariant-of-result c = (∣ stored_none 32 ∣₁, (refl, (zero-le, tt)))
+pub invariant_of-result : goal.invariant_of-result
+invariant_of-result c = (∣ stored_none 32 ∣₁, (refl, (zero-le, tt)))
 
 pub returns : goal.returns
 returns c = closure_none

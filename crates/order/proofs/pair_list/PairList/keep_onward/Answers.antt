@@ -14,8 +14,8 @@ loop-i-preserved c =
     let me = c.args.self.now in
     let ps = take me.count me.pairs in
     let long = stored_length me.pairs me.count me.long me.room (stored_from 32 ps me.ok) in
-    onward_turn (closure (take c.loop-i.rest.count c.loop-i.rest.pairs)) c.args.a ps c.loop-i.i c.pair-at-from.result
-    (omega (arith, long, c.loop-i-test.true)) c.pair-at-from.ensures _ c.args.x _ c.store-if.ensures c.loop-i.invariant
+    onward_turn (closure (take c.loop-i.rest.count c.loop-i.rest.pairs)) c.args.a ps c.loop-i.i c.pair_at-from.result
+    (omega (arith, long, c.loop-i-test.true)) c.pair_at-from.ensures _ c.args.x _ c.store_if.ensures c.loop-i.invariant
 
 pub returns : goal.returns
 returns c =

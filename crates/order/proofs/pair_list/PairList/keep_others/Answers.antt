@@ -14,8 +14,8 @@ loop-i-preserved c =
     let me = c.args.self.now in
     let ps = take me.count me.pairs in
     let long = stored_length me.pairs me.count me.long me.room (stored_from 32 ps me.ok) in
-    others_turn (closure (take c.loop-i.rest.count c.loop-i.rest.pairs)) c.args.a ps c.loop-i.i c.pair-at-x.result
-    (omega (arith, long, c.loop-i-test.true)) c.pair-at-x.ensures _ _ _ c.neither.ensures c.store-if.ensures c.loop-i.invariant
+    others_turn (closure (take c.loop-i.rest.count c.loop-i.rest.pairs)) c.args.a ps c.loop-i.i c.pair_at-x.result
+    (omega (arith, long, c.loop-i-test.true)) c.pair_at-x.ensures _ _ _ c.neither.ensures c.store_if.ensures c.loop-i.invariant
 
 pub returns : goal.returns
 returns c =

@@ -23,10 +23,10 @@ loop-i-preserved c =
     elim c.if-to-a.branch [
       | then-to-a w ↦
           subst Goal (sym w.rest-is)
-          (through_turn R c.args.a ps c.loop-i.i c.pair-at-x.result at c.pair-at-x.ensures whole ps _ w.if-to-a.true w.keep-onward.ensures c.loop-i.invariant)
+          (through_turn R c.args.a ps c.loop-i.i c.pair_at-x.result at c.pair_at-x.ensures whole ps _ w.if-to-a.true w.keep_onward.ensures c.loop-i.invariant)
       | else-to-a w ↦
           subst Goal (sym w.rest-is)
-          (through_pass R c.args.a ps c.loop-i.i c.pair-at-x.result at c.pair-at-x.ensures whole ps w.if-to-a.false c.loop-i.invariant)
+          (through_pass R c.args.a ps c.loop-i.i c.pair_at-x.result at c.pair_at-x.ensures whole ps w.if-to-a.false c.loop-i.invariant)
     ]
 
 pub returns : goal.returns

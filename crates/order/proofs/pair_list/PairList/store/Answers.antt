@@ -14,14 +14,14 @@ bounds-self-self c =
     let me = c.args.self.now in
     let ps = take me.count me.pairs in
     push_room me.pairs me.count me.long me.room (stored_from 32 ps me.ok) c.args.a c.args.b
-    (free_from 32 (closure ps) c.args.a c.args.b (sym c.if-not-can-put.ensures)) (sym c.if-not-follows.ensures)
+    (free_from 32 (closure ps) c.args.a c.args.b (sym c.if-not-can_put.ensures)) (sym c.if-not-follows.ensures)
 
-pub invariant-of-self : goal.invariant-of-self
-invariant-of-self c =
+pub invariant_of-self : goal.invariant_of-self
+invariant_of-self c =
     let me = c.args.self.now in
     let ps = take me.count me.pairs in
     let s = stored_from 32 ps me.ok in
-    let f = free_from 32 (closure ps) c.args.a c.args.b (sym c.if-not-can-put.ensures) in
+    let f = free_from 32 (closure ps) c.args.a c.args.b (sym c.if-not-can_put.ensures) in
     let new = sym c.if-not-follows.ensures in (
       ∣ push_stored me.pairs me.count me.long me.room s c.args.a c.args.b f new ∣₁,
       (
@@ -36,7 +36,7 @@ returns-then-not-follows c =
     let ps = take me.count me.pairs in
     let a = c.args.a in
     let b = c.args.b in
-    let can = c.if-not-can-put.ensures in
+    let can = c.if-not-can_put.ensures in
     record {
       test = can;
       after = push_put me.pairs me.count me.long me.room (stored_from 32 ps me.ok) a b (free_from 32 (closure ps) a b (sym can)) (sym c.if-not-follows.ensures)
@@ -50,7 +50,7 @@ returns-else-not-follows c =
     let ps = take me.count me.pairs in
     let a = c.args.a in
     let b = c.args.b in
-    let can = c.if-not-can-put.ensures in
+    let can = c.if-not-can_put.ensures in
     record {
       test = can;
       after = put_already (closure ps) a b (stored_from 32 ps me.ok).order.strict.passes_on (sym c.if-not-follows.ensures)

@@ -10,6 +10,6 @@ returns c =
     let me = c.args.self.now in
     let ps = take me.count me.pairs in
     let a = c.args.a in
-    c.keep-through.ensures
-    ∙ ap (λ (R : Relation). put_some 32 R (through a ps ps)) (c.keep-others.ensures ∙ ap (λ (R : Relation). put_some 32 R (others a ps)) c.empty-rest.ensures)
+    c.keep_through.ensures
+    ∙ ap (λ (R : Relation). put_some 32 R (through a ps ps)) (c.keep_others.ensures ∙ ap (λ (R : Relation). put_some 32 R (others a ps)) c.empty-rest.ensures)
     ∙ dropped_list 32 ps (stored_from 32 ps me.ok).order a

@@ -1,7 +1,7 @@
 use Rattle.std.proofs.Common.{sym, ◌∙◌, arith}
 use Rattle.fixed.specs.Items.{items}
 use Rattle.plan.proofs.Ups.{count_present, count_absent, count_end}
-use Rattle.plan.proofs.plan.Plan.count_steps.Goals.{then-is-step, else-is-step}
+use Rattle.plan.proofs.plan.Plan.count_steps.Goals.{then-is_step, else-is_step}
 use Rattle.plan.proofs.plan.Plan.count_steps.Goals as goal
 
 pub loop-s-preserved : goal.loop-s-preserved
@@ -9,9 +9,9 @@ loop-s-preserved c =
     let os = items c.args.self.now.steps in
     let held = c.loop-s.invariant.0 in
     let few = c.loop-s.invariant.1 in
-    elim c.if-is-step.branch [
-      | then-is-step w ↦ let one = count_present os c.loop-s.s (omega (arith, c.given-s-end.ensures.value)) (sym c.is_step.ensures ∙ w.if-is-step.true) in let k = w.count-is in (omega arith, omega arith)
-      | else-is-step w ↦ let one = count_absent os c.loop-s.s (omega (arith, c.given-s-end.ensures.value)) (sym c.is_step.ensures ∙ w.if-is-step.false) in let k = w.count-is in (omega arith, omega arith)
+    elim c.if-is_step.branch [
+      | then-is_step w ↦ let one = count_present os c.loop-s.s (omega (arith, c.given-s-end.ensures.value)) (sym c.is_step.ensures ∙ w.if-is_step.true) in let k = w.count-is in (omega arith, omega arith)
+      | else-is_step w ↦ let one = count_absent os c.loop-s.s (omega (arith, c.given-s-end.ensures.value)) (sym c.is_step.ensures ∙ w.if-is_step.false) in let k = w.count-is in (omega arith, omega arith)
     ]
 
 pub returns : goal.returns

@@ -13,7 +13,7 @@ returns-in-Some g c =
 pub loop-x-preserved : goal.loop-x-preserved
 loop-x-preserved g c =
     let test = is_behind (g.K.Keeper.before c.args.keeper.now) c.args.taken c.args.s in
-    seek_on (first_such test) (λ y. cond (test y) (Some y) None) (seeks_such test) (items c.args.self.now.steps) c.loop-x.x (omega (arith, c.given-x-end.ensures.value)) (sym c.in-default.ensures) c.loop-x.invariant
+    seek_on (first_such test) (λ y. cond (test y) (Some y) None) (seeks_such test) (items c.args.self.now.steps) c.loop-x.x (omega (arith, c.given-x-end.ensures.value)) (sym c.in_default.ensures) c.loop-x.invariant
 
 pub returns : goal.returns
 returns g c =

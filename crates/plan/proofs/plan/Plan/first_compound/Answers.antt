@@ -16,7 +16,7 @@ pub loop-s-preserved : goal.loop-s-preserved
 loop-s-preserved c =
     let os = items c.args.self.now.steps in
     let test = is_compound (tasks c.args.known.now) os in
-    seek_on (first_such test) (compound (tasks c.args.known.now) os) (seeks_such test) os c.loop-s.s (omega (arith, c.given-s-end.ensures.value)) (sym c.in-default.ensures) c.loop-s.invariant
+    seek_on (first_such test) (compound (tasks c.args.known.now) os) (seeks_such test) os c.loop-s.s (omega (arith, c.given-s-end.ensures.value)) (sym c.in_default.ensures) c.loop-s.invariant
 
 pub returns : goal.returns
 returns c =

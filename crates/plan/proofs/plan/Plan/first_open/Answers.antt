@@ -13,7 +13,7 @@ returns-in-Some c =
 pub loop-s-preserved : goal.loop-s-preserved
 loop-s-preserved c =
     let os = items c.args.self.now.steps in
-    found_on (unlinked_of (tasks c.args.known.now) os (items c.args.self.now.links)) os c.loop-s.s (omega (arith, c.given-s-end.ensures.value)) (sym c.in-default.ensures) c.loop-s.invariant
+    found_on (unlinked_of (tasks c.args.known.now) os (items c.args.self.now.links)) os c.loop-s.s (omega (arith, c.given-s-end.ensures.value)) (sym c.in_default.ensures) c.loop-s.invariant
 
 pub returns : goal.returns
 returns c =

@@ -14,7 +14,7 @@ returns-in-Some g c =
 pub loop-s-preserved : goal.loop-s-preserved
 loop-s-preserved g c =
     let os = items c.args.self.now.steps in
-    found_on (threatened (tasks c.args.known.now) (plan (g.K.Keeper.before c.args.keeper.now) c.args.self.now)) os c.loop-s.s (omega (arith, c.given-s-end.ensures.value)) (sym c.in-default.ensures) c.loop-s.invariant
+    found_on (threatened (tasks c.args.known.now) (plan (g.K.Keeper.before c.args.keeper.now) c.args.self.now)) os c.loop-s.s (omega (arith, c.given-s-end.ensures.value)) (sym c.in_default.ensures) c.loop-s.invariant
 
 pub returns : goal.returns
 returns g c =

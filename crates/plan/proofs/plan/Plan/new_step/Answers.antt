@@ -20,6 +20,6 @@ returns g c = record {
       let given : (a b : ℕ) → Holds R a b → (a < k) × (b < k) = λ a b h. (omega (arith, (suits.given a b h).0), omega (arith, (suits.given a b h).1)) in
       let first = after_init n R k strict few room both suits.starts given in
       let second = before_goal n R k strict few room both suits.starts given in
-      let order = c.put-between.ensures first second in
+      let order = c.put_between.ensures first second in
       search rules;
 }

@@ -5,8 +5,8 @@ use Rattle.plan.proofs.plan.Plan.put_order.Goals as goal
 
 pub returns-in-Err : goal.returns-in-Err
 returns-in-Err g c =
-    let p = sym c.if-not-is-step.ensures in
-    let q = sym c.if-not-is-step-2.ensures in
+    let p = sym c.if-not-is_step.ensures in
+    let q = sym c.if-not-is_step-2.ensures in
     let e = c.in-Err.ensures in
     record {
       answer = λ room. circle_told _ _ _ p q (circle g.K.Keeper.capacity (g.K.Keeper.before c.args.keeper.now) (items c.args.self.now.steps) c.args.earlier c.args.later room p q (sym e.test));

@@ -3,7 +3,7 @@ use Rattle.domain.specs.Meaning.{tasks}
 use Rattle.told_domain.proofs.Keeping.{held, task_line}
 use Rattle.told_domain.proofs.told.Domain.append_delete.Goals as goal
 
-pub invariant-of-self : goal.invariant-of-self
-invariant-of-self c =
+pub invariant_of-self : goal.invariant_of-self
+invariant_of-self c =
     let self = c.args.self.now in
-    task_line self.phase (tasks self.known) (tasks c.append-delete.new.self) (items self.list) self.draft (c.is-outside.ensures.same c.if-is-outside.false) (held self)
+    task_line self.phase (tasks self.known) (tasks c.append_delete.new.self) (items self.list) self.draft (c.is_outside.ensures.same c.if-is_outside.false) (held self)

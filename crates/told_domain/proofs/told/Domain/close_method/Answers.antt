@@ -16,25 +16,25 @@ use Rattle.told_domain.specs.Domains.{in_phase, parts, with_methods}
 
 stored : (c : After-push) → items c.push.new.self ≡ items c.args.self.now.list ++ (c.args.self.now.draft ∷ [])
 stored c =
-    let r = c.args.self.now.room (c.is-outside.ensures.same c.if-is-outside.false) in
+    let r = c.args.self.now.room (c.is_outside.ensures.same c.if-is_outside.false) in
     grind (arith, r, c.push.ensures.room, c.push.ensures.after)
 
-pub invariant-of-self : goal.invariant-of-self
-invariant-of-self c =
+pub invariant_of-self : goal.invariant_of-self
+invariant_of-self c =
     let self = c.args.self.now in
     let ts = tasks self.known in
-    let free : (row c.close-answer.result).code ≡ 0 = eqb-true (row c.close-answer.result).code 0 (sym c.if-is-accepted.ensures) in
-    closed self.phase ts (items self.list) (items c.push.new.self) self.draft (c.is-outside.ensures.same c.if-is-outside.false) (stored c)
+    let free : (row c.close-answer.result).code ≡ 0 = eqb-true (row c.close-answer.result).code 0 (sym c.if-is_accepted.ensures) in
+    closed self.phase ts (items self.list) (items c.push.new.self) self.draft (c.is_outside.ensures.same c.if-is_outside.false) (stored c)
     (closed_fits ts (method self.draft) 0 (sym (ap (λ (r : Row). r.code) c.close-answer.ensures) ∙ free)) (held self)
 
-pub returns-then-is-accepted : goal.returns-then-is-accepted
-returns-then-is-accepted c =
+pub returns-then-is_accepted : goal.returns-then-is_accepted
+returns-then-is_accepted c =
     let self = c.args.self.now in
     let more : map method (items c.push.new.self) ≡ map method (items self.list) ++ (method self.draft ∷ []) =
-    ap (map method) (stored (goal.at.returns-then-is-accepted c).After-push) ∙ map_push method (items self.list) self.draft in
+    ap (map method) (stored (goal.at.returns-then-is_accepted c).After-push) ∙ map_push method (items self.list) self.draft in
     let old = parts self in
     let new = in_phase Methods (with_methods (map method (items self.list) ++ (method self.draft ∷ [])) old) in
     record {
-      answer = grind (arith, c.if-is-outside.ensures.test, c.close-answer.ensures);
-      after = ap (λ (ms : List meant.Method). in_phase Methods (with_methods ms old)) more ∙ sym (cond-true (eqb (row c.close-answer.result).code 0) new old (sym c.if-is-accepted.ensures));
+      answer = grind (arith, c.if-is_outside.ensures.test, c.close-answer.ensures);
+      after = ap (λ (ms : List meant.Method). in_phase Methods (with_methods ms old)) more ∙ sym (cond-true (eqb (row c.close-answer.result).code 0) new old (sym c.if-is_accepted.ensures));
     }

@@ -10,8 +10,8 @@ use Rattle.methods.specs.Meaning.{method}
 use Rattle.told_domain.proofs.Keeping.{draft_line, held}
 use Rattle.told_domain.proofs.told.Domain.put_link.Goals as goal
 
-pub invariant-of-self : goal.invariant-of-self
-invariant-of-self c =
+pub invariant_of-self : goal.invariant_of-self
+invariant_of-self c =
     let self = c.args.self.now in
     let ts = tasks self.known in
     let m = method self.draft in

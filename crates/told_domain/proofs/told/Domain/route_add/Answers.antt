@@ -9,10 +9,10 @@ use Rattle.methods.specs.Meaning.{method}
 use Rattle.told_domain.proofs.Keeping.{draft_line, held}
 use Rattle.told_domain.proofs.told.Domain.route_add.Goals as goal
 
-pub invariant-of-self : goal.invariant-of-self
-invariant-of-self c =
+pub invariant_of-self : goal.invariant_of-self
+invariant_of-self c =
     let self = c.args.self.now in
     let ts = tasks self.known in
     let m = method self.draft in
     let by-rules = first_of (add_entry_causes ts m c.args.add c.args.step c.args.label) 0 in
-    draft_line self.phase ts (items self.list) self.draft c.route-add.new.self (add_entry m c.args.add (c.args.step, c.args.label)) (row c.route-add.result) by-rules c.route-add.ensures.answer c.route-add.ensures.after (kept_add ts m c.args.add c.args.step c.args.label 0) (held self)
+    draft_line self.phase ts (items self.list) self.draft c.route_add.new.self (add_entry m c.args.add (c.args.step, c.args.label)) (row c.route_add.result) by-rules c.route_add.ensures.answer c.route_add.ensures.after (kept_add ts m c.args.add c.args.step c.args.label 0) (held self)

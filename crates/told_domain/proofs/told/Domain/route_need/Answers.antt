@@ -9,10 +9,10 @@ use Rattle.methods.specs.Meaning.{method}
 use Rattle.told_domain.proofs.Keeping.{draft_line, held}
 use Rattle.told_domain.proofs.told.Domain.route_need.Goals as goal
 
-pub invariant-of-self : goal.invariant-of-self
-invariant-of-self c =
+pub invariant_of-self : goal.invariant_of-self
+invariant_of-self c =
     let self = c.args.self.now in
     let ts = tasks self.known in
     let m = method self.draft in
     let by-rules = first_of (need_entry_causes ts m c.args.need c.args.step c.args.label) 0 in
-    draft_line self.phase ts (items self.list) self.draft c.route-need.new.self (need_entry m c.args.need (c.args.step, c.args.label)) (row c.route-need.result) by-rules c.route-need.ensures.answer c.route-need.ensures.after (kept_need ts m c.args.need c.args.step c.args.label 0) (held self)
+    draft_line self.phase ts (items self.list) self.draft c.route_need.new.self (need_entry m c.args.need (c.args.step, c.args.label)) (row c.route_need.result) by-rules c.route_need.ensures.answer c.route_need.ensures.after (kept_need ts m c.args.need c.args.step c.args.label 0) (held self)

@@ -23,20 +23,20 @@ returns-in-NewStep c =
 pub returns-in-PutOrder : goal.returns-in-PutOrder
 returns-in-PutOrder c =
     let d = parts c.args.self.now.domain in
-    let e = c.put-order.ensures.answer ∙ order_row d.tasks d.methods d.draft d.phase c.requires c.in-PutOrder.earlier c.in-PutOrder.later in
-    let s = order_after d.tasks d.methods d.draft d.phase c.requires c.in-PutOrder.earlier c.in-PutOrder.later (row c.put-order.result) e in
+    let e = c.put_order.ensures.answer ∙ order_row d.tasks d.methods d.draft d.phase c.requires c.in-PutOrder.earlier c.in-PutOrder.later in
+    let s = order_after d.tasks d.methods d.draft d.phase c.requires c.in-PutOrder.earlier c.in-PutOrder.later (row c.put_order.result) e in
     record {
       row = e ∙ ap (verdict 64 (state d)) (sym c.in-PutOrder.is);
-      after = c.put-order.ensures.after ∙ s ∙ ap (λ (k : Command). told (row c.put-order.result) (domain_of (next (state d) k)) d) (sym c.in-PutOrder.is);
+      after = c.put_order.ensures.after ∙ s ∙ ap (λ (k : Command). told (row c.put_order.result) (domain_of (next (state d) k)) d) (sym c.in-PutOrder.is);
     }
 
 pub returns-in-PutLink : goal.returns-in-PutLink
 returns-in-PutLink c =
     let d = parts c.args.self.now.domain in
     let link : Link = record { producer = c.in-PutLink.producer; add = c.in-PutLink.add; consumer = c.in-PutLink.consumer; goal = c.in-PutLink.need } in
-    let e = c.put-link.ensures.answer ∙ link_row d.tasks d.methods d.draft d.phase c.requires link in
-    let s = link_after d.tasks d.methods d.draft d.phase c.requires link (row c.put-link.result) e in
+    let e = c.put_link.ensures.answer ∙ link_row d.tasks d.methods d.draft d.phase c.requires link in
+    let s = link_after d.tasks d.methods d.draft d.phase c.requires link (row c.put_link.result) e in
     record {
       row = e ∙ ap (verdict 64 (state d)) (sym c.in-PutLink.is);
-      after = c.put-link.ensures.after ∙ s ∙ ap (λ (k : Command). told (row c.put-link.result) (domain_of (next (state d) k)) d) (sym c.in-PutLink.is);
+      after = c.put_link.ensures.after ∙ s ∙ ap (λ (k : Command). told (row c.put_link.result) (domain_of (next (state d) k)) d) (sym c.in-PutLink.is);
     }
