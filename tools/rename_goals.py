@@ -8,7 +8,7 @@ Names of the source keep their underscores (`returns-then-not-is-plain` becomes 
 """
 import glob, os, re, sys
 
-WORDS = ['invariant_of', 'in_default', 'in_err', 'in_ok', 'into_iter', 'from_residual', 'extend_from_slice', 'as_slice', 'as_mut_slice',
+WORDS = ['invariant_of', 'overflow_add', 'overflow_sub', 'overflow_mul', 'overflow_cast', 'in_default', 'in_err', 'in_ok', 'into_iter', 'from_residual', 'extend_from_slice', 'as_slice', 'as_mut_slice',
          'split_at', 'unwrap_or', 'is_none', 'is_some', 'is_err', 'is_ok', 'type_inv']
 TOKEN = re.compile(r"[A-Za-z_][A-Za-z0-9_']*(?:[-+·][A-Za-z0-9_'+·]+)+")
 

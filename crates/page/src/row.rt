@@ -65,7 +65,7 @@ impl Answer {
         ensures place { result ≡ (if fits page.old at then Some (at + length (row_text (row self))) else None) }
         ensures within { MatchOption result (length page.old < at + 28) (λ end. (end ≤ at + 28) × (end ≤ length page.old)) }
     {
-        if !has_room(page, at) {
+        if page.len().saturating_sub(at) < ROW_ROOM {
             return None;
         }
         Some(put_row(page, at, self.row()))

@@ -12,8 +12,8 @@ put_decimal-end-requires t c = (omega arith, omega (arith, length_step c.args.n 
 pub bounds-page-end : goal.bounds-page-end
 bounds-page-end t c = omega (arith, length_step c.args.n (omega arith) (omega arith), c.put_decimal-end.ensures.place)
 
-pub overflow-add-result-else-n-lt10 : goal.overflow-add-result-else-n-lt10
-overflow-add-result-else-n-lt10 t c = omega (arith, length_step c.args.n (omega arith) (omega arith), c.put_decimal-end.ensures.place)
+pub overflow_add-result-else-n-lt10 : goal.overflow_add-result-else-n-lt10
+overflow_add-result-else-n-lt10 t c = omega (arith, length_step c.args.n (omega arith) (omega arith), c.put_decimal-end.ensures.place)
 
 pub returns-then-n-lt10 : goal.returns-then-n-lt10
 returns-then-n-lt10 t c =

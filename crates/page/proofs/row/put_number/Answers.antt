@@ -9,8 +9,8 @@ put_decimal-end-requires c = omega (arith, length_number c.args.n c.args.after)
 pub bounds-page-end : goal.bounds-page-end
 bounds-page-end c = omega (arith, length_number c.args.n c.args.after)
 
-pub overflow-add-result : goal.overflow-add-result
-overflow-add-result c = omega (arith, length_number c.args.n c.args.after)
+pub overflow_add-result : goal.overflow_add-result
+overflow_add-result c = omega (arith, length_number c.args.n c.args.after)
 
 pub returns : goal.returns
 returns c =

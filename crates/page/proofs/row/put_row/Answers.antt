@@ -18,8 +18,8 @@ put_number-c-requires c = omega (arith, length_parts c.args.row)
 pub bounds-page-c : goal.bounds-page-c
 bounds-page-c c = omega (arith, length_parts c.args.row)
 
-pub overflow-add-result : goal.overflow-add-result
-overflow-add-result c = omega (arith, length_parts c.args.row)
+pub overflow_add-result : goal.overflow_add-result
+overflow_add-result c = omega (arith, length_parts c.args.row)
 
 pub returns : goal.returns
 returns c =

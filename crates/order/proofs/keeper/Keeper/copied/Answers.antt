@@ -5,8 +5,8 @@ use Rattle.order.proofs.Copies.{Partly, partly_all, partly_put, partly_skip}
 use Rattle.order.proofs.keeper.Keeper.copied.Goals as goal
 use Rattle.order.proofs.keeper.Keeper.copied.Goals.{else-before, then-before}
 
-pub overflow-cast-a : goal.overflow-cast-a
-overflow-cast-a g c =
+pub overflow_cast-a : goal.overflow_cast-a
+overflow_cast-a g c =
     let few = g.met.Self.Keeper.few in
     let below = div_below c.loop-place.place c.from-steps.result c.from-steps.result (omega arith) (omega arith) in
     omega arith
