@@ -55,11 +55,11 @@ module _ (ts : List Task) (p : Plan) (sound : Sound ts p) (x : Executable ts p) 
   no_open : (s : ℕ) → In s (steps_of p) → unlinked_at ts p s ≡ None
   no_open s i =
       let t = sound.tasks_known s i in
-      let rules : needs_of (task_of ts p s) ≡ t.0.needs = ap needs_of t.1 in
+      let needs : needs_of (task_of ts p s) ≡ t.0.needs = ap needs_of t.1 in
       none_such (λ j. not (is_some (producer p.links s j))) (upfrom 0 (length (needs_of (task_of ts p s))))
       (λ j k.
       let b = (upfrom_in 0 (length (needs_of (task_of ts p s))) j).0 k in
-      let f = nth_there t.0.needs j (let z = ap length rules in omega (arith, b.1, z)) in
+      let f = nth_there t.0.needs j (let z = ap length needs in omega (arith, b.1, z)) in
       let l = x.all_linked s t.0 t.1 j f.0 f.1 in
       ap not (supplied_some p.links s j l.0 l.1 l.2 l.3))
 

@@ -64,7 +64,7 @@ pub record Fits (ts : List Task) (m : Method) : Type 0 where
   pub compound : task.primitive ≡ false
   pub tasks_known : (a t : ℕ) → slice_get m.steps a ≡ Some t → (u : Task) × (slice_get ts t ≡ Some u)
   pub plain_steps : (a t : ℕ) → slice_get m.steps a ≡ Some t → 2 ≤ t
-  pub rules : (j f : ℕ) → Labelled task.needs j f
+  pub needs : (j f : ℕ) → Labelled task.needs j f
       → (a : ℕ) × (k : ℕ) × (u : Task) × (m.needs_go j ≡ Some (a, k)) × (own_task_of ts m a ≡ Some u) × Labelled u.needs k f
   pub adds : (i f : ℕ) → Labelled task.adds i f
       → (a : ℕ) × (k : ℕ) × (u : Task) × (m.adds_go i ≡ Some (a, k)) × (own_task_of ts m a ≡ Some u) × Labelled u.adds k f

@@ -3,6 +3,7 @@
 //! The definitions stand in specs/. The types here are those that the definitions share with the code, and each function
 //! stands for a theorem: its contract is the statement.
 #![tactic(auto)]
+
 mod laws;
 mod link;
 mod phase;

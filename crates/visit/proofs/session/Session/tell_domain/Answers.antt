@@ -33,7 +33,7 @@ returns-in-PutOrder c =
 pub returns-in-PutLink : goal.returns-in-PutLink
 returns-in-PutLink c =
     let d = parts c.args.self.now.domain in
-    let link : Link = record { producer = c.in-PutLink.producer; add = c.in-PutLink.add; consumer = c.in-PutLink.consumer; goal = c.in-PutLink.need } in
+    let link : Link = record { producer = c.in-PutLink.producer; add = c.in-PutLink.add; consumer = c.in-PutLink.consumer; need = c.in-PutLink.need } in
     let e = c.put_link.ensures.answer ∙ link_row d.tasks d.methods d.draft d.phase c.requires link in
     let s = link_after d.tasks d.methods d.draft d.phase c.requires link (row c.put_link.result) e in
     record {
