@@ -39,7 +39,7 @@ fn put_brought<K: Keeper>(
     after: &Revised,
 ) -> Result<(), Refused>
     requires { places.first ≤ 64 }
-    ensures { Tried K.Keeper.capacity (K.Keeper.before next.old) (brought (tasks known.now) (K.Keeper.before keeper.now) (items target.now.steps) (method m.now) places (items after.now.steps) (items after.now.links)) (is_ok result) (K.Keeper.before next.new) }
+    ensures { Tried K.capacity (K.before next.old) (brought (tasks known.now) (K.before keeper.now) (items target.now.steps) (method m.now) places (items after.now.steps) (items after.now.links)) (is_ok result) (K.before next.new) }
 {
     put_inherited(next, keeper, target, Side::Before, places)?;
     put_inherited(next, keeper, target, Side::After, places)?;
@@ -57,8 +57,8 @@ fn order_after<K: Keeper>(
     s: u8,
     after: &Revised,
 ) -> Option<K>
-    requires { Revises K.Keeper.capacity (plan (K.Keeper.before keeper.now) target.now) s (method m.now) (items after.now.steps) (items after.now.links) }
-    ensures { option_map K.Keeper.before result ≡ try_all (Some (dropped (K.Keeper.before keeper.now) s)) (new_pairs (tasks known.now) (plan (K.Keeper.before keeper.now) target.now) s (method m.now)) }
+    requires { Revises K.capacity (plan (K.before keeper.now) target.now) s (method m.now) (items after.now.steps) (items after.now.links) }
+    ensures { option_map K.before result ≡ try_all (Some (dropped (K.before keeper.now) s)) (new_pairs (tasks known.now) (plan (K.before keeper.now) target.now) s (method m.now)) }
 {
     let first = target.given();
     let places = Exchange {
@@ -85,8 +85,8 @@ pub fn decompose<K: Keeper>(
     s: u8,
     m: u8,
 ) -> Answer
-    ensures answer { row result ≡ first_of (decompose_causes K.Keeper.capacity (parts domain.now).tasks (parts domain.now).methods (plan (K.Keeper.before keeper.old) target.old) s m) (length (plan (K.Keeper.before keeper.old) target.old).steps) }
-    ensures after { plan (K.Keeper.before keeper.new) target.new ≡ told (row result) (decompose_with (parts domain.now).tasks (plan (K.Keeper.before keeper.old) target.old) s (slice_get (parts domain.now).methods m)) (plan (K.Keeper.before keeper.old) target.old) }
+    ensures answer { row result ≡ first_of (decompose_causes K.capacity (parts domain.now).tasks (parts domain.now).methods (plan (K.before keeper.old) target.old) s m) (length (plan (K.before keeper.old) target.old).steps) }
+    ensures after { plan (K.before keeper.new) target.new ≡ told (row result) (decompose_with (parts domain.now).tasks (plan (K.before keeper.old) target.old) s (slice_get (parts domain.now).methods m)) (plan (K.before keeper.old) target.old) }
     ensures same { ((row result).code == 0) ≡ false → (keeper.new ≡ keeper.old) × (target.new ≡ target.old) }
 {
     let Some(task) = target.task_number(s) else {

@@ -15,4 +15,3 @@ pub struct FactList {
     ghost small: { (f : ℕ) → among f (items list) ≡ true → f < 64 },
     ghost marked: { (f : ℕ) → bit mask f ≡ among f (items list) },
 }
-

@@ -8,4 +8,3 @@ pub struct Task {
     pub(super) adds: FactList,
     pub(super) deletes: FactList,
 }
-

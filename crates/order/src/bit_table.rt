@@ -91,7 +91,7 @@ impl Keeper for BitTable {
 
     ghost never_itself = { λ k. (order_from 64 (marks k.rows) k.ok).strict.never_itself };
 
-    ghost passes_on = { λ k. (order_from 64 (marks k.rows) k.ok).strict.passes-on };
+    ghost passes_on = { λ k. (order_from 64 (marks k.rows) k.ok).strict.passes_on };
 
     ghost within = { λ k. (order_from 64 (marks k.rows) k.ok).within };
 

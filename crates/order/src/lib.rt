@@ -4,6 +4,7 @@
 //! every keeper. `BitTable` has a bit for each pair of 64 steps, `PairList` a list of pairs of 32 steps from which the others
 //! follow.
 #![tactic(auto)]
+
 mod bit_table;
 mod keeper;
 mod operation;

@@ -175,7 +175,7 @@ impl Keeper for PairList {
 
     ghost never_itself = { λ k. (stored_from 32 (take k.count k.pairs) k.ok).order.strict.never_itself };
 
-    ghost passes_on = { λ k. (stored_from 32 (take k.count k.pairs) k.ok).order.strict.passes-on };
+    ghost passes_on = { λ k. (stored_from 32 (take k.count k.pairs) k.ok).order.strict.passes_on };
 
     ghost within = { λ k. (stored_from 32 (take k.count k.pairs) k.ok).order.within };
 

@@ -74,7 +74,7 @@ impl Plan {
 
     /// Whether step `s` threatens the link.
     fn is_threat<K: Keeper>(&self, keeper: &K, known: &Tasks, s: u8, link: Link) -> bool
-        ensures { result ≡ threatens (tasks known.now) (plan (K.Keeper.before keeper.now) self.now) s link }
+        ensures { result ≡ threatens (tasks known.now) (plan (K.before keeper.now) self.now) s link }
     {
         let Some(fact) = self.fact_given(known, link) else {
             return false;
@@ -97,7 +97,7 @@ impl Plan {
         link: Link,
         found: Option<Link>,
     ) -> Option<Link>
-        ensures { result ≡ nearer_threatened (tasks known.now) (plan (K.Keeper.before keeper.now) self.now) s link found }
+        ensures { result ≡ nearer_threatened (tasks known.now) (plan (K.before keeper.now) self.now) s link found }
     {
         if !self.is_threat(keeper, known, s, link) {
             return found;
@@ -110,7 +110,7 @@ impl Plan {
 
     /// The lowest link that step `s` threatens.
     fn lowest_threatened<K: Keeper>(&self, keeper: &K, known: &Tasks, s: u8) -> Option<Link>
-        ensures { result ≡ lowest_link (threatens (tasks known.now) (plan (K.Keeper.before keeper.now) self.now) s) (items self.now.links) }
+        ensures { result ≡ lowest_link (threatens (tasks known.now) (plan (K.before keeper.now) self.now) s) (items self.now.links) }
     {
         let links = self.links.as_slice();
         let mut found = None;
@@ -122,7 +122,7 @@ impl Plan {
 
     /// The step, if it is present and threatens a link, and the lowest such link.
     fn threat_at<K: Keeper>(&self, keeper: &K, known: &Tasks, s: u8) -> Option<(u8, Link)>
-        ensures { result ≡ at_step (items self.now.steps) (λ x. paired x (threatened (tasks known.now) (plan (K.Keeper.before keeper.now) self.now) x)) s }
+        ensures { result ≡ at_step (items self.now.steps) (λ x. paired x (threatened (tasks known.now) (plan (K.before keeper.now) self.now) x)) s }
     {
         self.task_number(s)?;
         let link = self.lowest_threatened(keeper, known, s)?;
@@ -131,7 +131,7 @@ impl Plan {
 
     /// The lowest step that threatens a link, and the lowest link that it threatens.
     fn first_threat<K: Keeper>(&self, keeper: &K, known: &Tasks) -> Option<(u8, Link)>
-        ensures { result ≡ first_found (threatened (tasks known.now) (plan (K.Keeper.before keeper.now) self.now)) (present_from 0 (items self.now.steps)) }
+        ensures { result ≡ first_found (threatened (tasks known.now) (plan (K.before keeper.now) self.now)) (present_from 0 (items self.now.steps)) }
     {
         for s in 0..self.given() {
             if let Some(found) = self.threat_at(keeper, known, s) {
@@ -156,7 +156,7 @@ impl Plan {
 
     /// Judges the plan: accepted with the count of its steps, or the first criterion that fails and its lowest spot.
     pub fn judge<K: Keeper>(&self, keeper: &K, known: &Tasks) -> Answer
-        ensures { row result ≡ first_of (judge_causes (tasks known.now) (plan (K.Keeper.before keeper.now) self.now)) (length (steps_of (plan (K.Keeper.before keeper.now) self.now))) }
+        ensures { row result ≡ first_of (judge_causes (tasks known.now) (plan (K.before keeper.now) self.now)) (length (steps_of (plan (K.before keeper.now) self.now))) }
     {
         if let Some(step) = self.first_compound(known) {
             return Answer::CompoundStep { step };

@@ -38,8 +38,8 @@ fn with_link(found: Option<u8>, link: Link, s: u8, j: u8) -> Option<u8>
 
 /// Whether a link may join two steps. Where both are primitive, the first is before the second from then on.
 fn arrange<K: Keeper>(keeper: &mut K, p: u8, q: u8, ordered: bool) -> bool
-    ensures answer { p < K.Keeper.capacity → q < K.Keeper.capacity → result ≡ not (p == q || (ordered && K.Keeper.before keeper.old q p)) }
-    ensures after { K.Keeper.before keeper.new ≡ (if result && ordered then put (K.Keeper.before keeper.old) p q else K.Keeper.before keeper.old) }
+    ensures answer { p < K.capacity → q < K.capacity → result ≡ not (p == q || (ordered && K.before keeper.old q p)) }
+    ensures after { K.before keeper.new ≡ (if result && ordered then put (K.before keeper.old) p q else K.before keeper.old) }
 {
     if ordered {
         keeper.put(p, q).is_ok()
@@ -99,8 +99,8 @@ impl Plan {
 
     /// Enters a link whose ends name one fact, unless the list is full or the order has no room for it.
     fn tie<K: Keeper>(&mut self, keeper: &mut K, l: Link, ordered: bool) -> Answer
-        ensures answer { l.producer < K.Keeper.capacity → l.consumer < K.Keeper.capacity → row result ≡ first_of (room_causes (items self.old.links) (K.Keeper.before keeper.old) 256 l ordered) 0 }
-        ensures after { plan (K.Keeper.before keeper.new) self.new ≡ told (row result) (linked_in (plan (K.Keeper.before keeper.old) self.old) l ordered) (plan (K.Keeper.before keeper.old) self.old) }
+        ensures answer { l.producer < K.capacity → l.consumer < K.capacity → row result ≡ first_of (room_causes (items self.old.links) (K.before keeper.old) 256 l ordered) 0 }
+        ensures after { plan (K.before keeper.new) self.new ≡ told (row result) (linked_in (plan (K.before keeper.old) self.old) l ordered) (plan (K.before keeper.old) self.old) }
     {
         if !has_room(&self.links, l) {
             return Answer::LimitPassed;
@@ -116,8 +116,8 @@ impl Plan {
     /// then on. A link that stands already is accepted again, also on a full list. The plan has no more step numbers than the
     /// keeper.
     pub fn put_link<K: Keeper>(&mut self, keeper: &mut K, known: &Tasks, link: Link) -> Answer
-        ensures answer { length (items self.old.steps) ≤ K.Keeper.capacity → row result ≡ first_of (link_causes (tasks known.now) (items self.old.steps) (items self.old.links) (K.Keeper.before keeper.old) 256 link) 0 }
-        ensures after { plan (K.Keeper.before keeper.new) self.new ≡ told (row result) (plan_link (tasks known.now) (plan (K.Keeper.before keeper.old) self.old) link) (plan (K.Keeper.before keeper.old) self.old) }
+        ensures answer { length (items self.old.steps) ≤ K.capacity → row result ≡ first_of (link_causes (tasks known.now) (items self.old.steps) (items self.old.links) (K.before keeper.old) 256 link) 0 }
+        ensures after { plan (K.before keeper.new) self.new ≡ told (row result) (plan_link (tasks known.now) (plan (K.before keeper.old) self.old) link) (plan (K.before keeper.old) self.old) }
     {
         if let Some(refusal) = self.bad_ends(known, link) {
             return refusal;

@@ -11,7 +11,7 @@ use semantics::Link;
 
 /// A keeper in which init is before goal, and nothing else.
 fn framed<K: Keeper>() -> K
-    ensures { K.Keeper.before result ≡ opening_plan.before }
+    ensures { K.before result ≡ opening_plan.before }
 {
     let mut keeper = K::new();
     let _ = keeper.put(0, 1);
@@ -40,7 +40,7 @@ impl Plan {
 
     /// The plan as it opens, with its keeper: init before goal, and no links.
     pub fn open<K: Keeper>() -> (Plan, K)
-        ensures { plan (K.Keeper.before result.1) result.0 ≡ opening_plan }
+        ensures { plan (K.before result.1) result.0 ≡ opening_plan }
     {
         (Plan::framed(), framed())
     }

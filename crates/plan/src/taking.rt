@@ -49,7 +49,7 @@ impl Plan {
 
     /// The step, if it is present, before step `s`, and not yet taken.
     fn behind_at<K: Keeper>(&self, keeper: &K, taken: u64, s: u8, x: u8) -> Option<u8>
-        ensures { result ≡ at_step (items self.now.steps) (λ y. (if is_behind (K.Keeper.before keeper.now) taken s y then Some y else None)) x }
+        ensures { result ≡ at_step (items self.now.steps) (λ y. (if is_behind (K.before keeper.now) taken s y then Some y else None)) x }
     {
         self.task_number(x)?;
         if x < 64 && keeper.before(x, s) && !marked(taken, x) {
@@ -61,7 +61,7 @@ impl Plan {
 
     /// The lowest step before step `s` that is not yet taken.
     fn first_behind<K: Keeper>(&self, keeper: &K, taken: u64, s: u8) -> Option<u8>
-        ensures { result ≡ first_such (is_behind (K.Keeper.before keeper.now) taken s) (present_from 0 (items self.now.steps)) }
+        ensures { result ≡ first_such (is_behind (K.before keeper.now) taken s) (present_from 0 (items self.now.steps)) }
     {
         for x in 0..self.given() {
             if let Some(found) = self.behind_at(keeper, taken, s, x) {
@@ -82,7 +82,7 @@ impl Plan {
         progress: &mut Progress,
         s: u8,
     ) -> Answer
-        ensures { (taken : List ℕ) → Follows (tasks known.now) (plan (K.Keeper.before keeper.now) self.now) taken progress.old → Took (tasks known.now) (plan (K.Keeper.before keeper.now) self.now) taken s (row result) progress.new }
+        ensures { (taken : List ℕ) → Follows (tasks known.now) (plan (K.before keeper.now) self.now) taken progress.old → Took (tasks known.now) (plan (K.before keeper.now) self.now) taken s (row result) progress.new }
     {
         if s >= self.given() || !self.is_step(s) {
             return Answer::NoSuchName { field: 1 };

@@ -4,7 +4,7 @@ use Rattle.semantics.specs.declared.link.Link.{Link}
 use Rattle.links.proofs.listing.is_linked.Goals as goal
 
 abbrev nothing : Link
-nothing = record { producer = 0; add = 0; consumer = 0; goal = 0 }
+nothing = record { producer = 0; add = 0; consumer = 0; need = 0 }
 
 pub returns-then-is_same : goal.returns-then-is_same
 returns-then-is_same c =

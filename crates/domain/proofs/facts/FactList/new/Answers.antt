@@ -6,4 +6,4 @@ use Rattle.domain.proofs.facts.FactList.new.Goals as goal
 pub invariant_of-result : goal.invariant_of-result
 invariant_of-result c =
     let none = c.new.ensures in
-    ((λ f h. let w : ⊥ = grind (arith, none) in absurd w), ((λ f. bit_zero f ∙ sym (ap (among f) none)), tt))
+    record { small = λ f h. let w : ⊥ = grind (arith, none) in absurd w; marked = λ f. bit_zero f ∙ sym (ap (among f) none) }

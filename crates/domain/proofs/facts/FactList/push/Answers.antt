@@ -12,7 +12,8 @@ invariant_of-self c =
     let fact = c.args.fact in
     let more : items c.push.new.self ≡ items self.list ++ (fact ∷ []) = search rules in
     let joined : (g : ℕ) → bit (bit_or self.mask c.only.result) g ≡ (bit self.mask g || eqb fact g) =
-    λ g. ap (λ m. bit (bit_or self.mask m) g) c.only.ensures ∙ bit_or self.mask (2 ^ fact) g ∙ ap (λ b. bit self.mask g || b) (bit_pow fact g) in (
-      (λ g h. let p = among_push g (items self.list) fact in let s = self.small g in grind (arith, more, c.requires)),
-      ((λ g. let p = among_push g (items self.list) fact in let s = self.marked g in let j = joined g in grind (arith, more)), tt),
-    )
+    λ g. ap (λ m. bit (bit_or self.mask m) g) c.only.ensures ∙ bit-or self.mask (2 ^ fact) g ∙ ap (λ b. bit self.mask g || b) (bit_pow fact g) in
+    record {
+      small = λ g h. let p = among_push g (items self.list) fact in let s = self.small g in grind (arith, more, c.requires);
+      marked = λ g. let p = among_push g (items self.list) fact in let s = self.marked g in let j = joined g in grind (arith, more);
+    }

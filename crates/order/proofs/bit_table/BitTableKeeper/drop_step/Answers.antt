@@ -6,7 +6,7 @@ use Rattle.order.proofs.bit_table.BitTableKeeper.drop_step.Goals as goal
 pub invariant_of-self : goal.invariant_of-self
 invariant_of-self c =
     let old = c.args.self.now.rows in
-    (∣ table_dropped_order old c.prune.new.rows (order_from 64 (marks old) c.args.self.now.ok) c.args.a c.if-a-lt64.true c.prune.ensures ∣₁, tt)
+    record { ok = ∣ table_dropped_order old c.prune.new.rows (order_from 64 (marks old) c.args.self.now.ok) c.args.a c.if-a-lt64.true c.prune.ensures ∣₁ }
 
 pub returns-then-a-lt64 : goal.returns-then-a-lt64
 returns-then-a-lt64 c =

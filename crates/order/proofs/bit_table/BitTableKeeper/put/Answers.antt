@@ -15,7 +15,7 @@ invariant_of-self c =
     let b = c.args.b in
     let is : (x : ℕ) → x < 64 → get_or new x 0 ≡ grown a (bit_or (get_or old b 0) (2 ^ b)) x (get_or old x 0) =
     subst (λ (m : ℕ). (x : ℕ) → x < 64 → get_or new x 0 ≡ grown a m x (get_or old x 0)) c.from_on-after.ensures c.join.ensures in
-    (∣ table_put_order old new (order_from 64 (marks old) c.args.self.now.ok) a b (free_from 64 (marks old) a b (sym c.if-not-can_put.ensures)) is ∣₁, tt)
+    record { ok = ∣ table_put_order old new (order_from 64 (marks old) c.args.self.now.ok) a b (free_from 64 (marks old) a b (sym c.if-not-can_put.ensures)) is ∣₁ }
 
 pub returns : goal.returns
 returns c =

@@ -22,13 +22,12 @@ invariant_of-self c =
     let ps = take me.count me.pairs in
     let s = stored_from 32 ps me.ok in
     let f = free_from 32 (closure ps) c.args.a c.args.b (sym c.if-not-can_put.ensures) in
-    let new = sym c.if-not-follows.ensures in (
-      ∣ push_stored me.pairs me.count me.long me.room s c.args.a c.args.b f new ∣₁,
-      (
-        length-set me.pairs me.count (c.args.a, c.args.b) ∙ me.long,
-        (omega (arith, push_room me.pairs me.count me.long me.room s c.args.a c.args.b f new), tt),
-      ),
-    )
+    let new = sym c.if-not-follows.ensures in
+    record {
+      ok = ∣ push_stored me.pairs me.count me.long me.room s c.args.a c.args.b f new ∣₁;
+      long = length-set me.pairs me.count (c.args.a, c.args.b) ∙ me.long;
+      room = omega (arith, push_room me.pairs me.count me.long me.room s c.args.a c.args.b f new);
+    }
 
 pub returns-then-not-follows : goal.returns-then-not-follows
 returns-then-not-follows c =
