@@ -2,3 +2,4 @@ pub mod Growing
 pub mod Labels
 pub mod Ends
 pub mod Steps
+pub mod Parts

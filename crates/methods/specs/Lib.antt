@@ -4,3 +4,4 @@ pub mod Ends
 pub mod Routes
 pub mod Places
 pub mod Meaning
+pub mod LinkParts

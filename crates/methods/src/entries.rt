@@ -15,4 +15,3 @@ pub struct Entries {
     ghost whole: { length places ≡ 32 },
     ghost small: { (j : ℕ) → entry_step (slice_index_or places j None) < 8 },
 }
-

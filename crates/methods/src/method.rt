@@ -17,4 +17,3 @@ pub struct Method {
     pub(super) adds: Entries,
     ghost ends: { SmallEnds (items links) },
 }
-

@@ -11,4 +11,3 @@ pub struct SmallOrder {
     ghost strict: { ∥ Strict (marks rows) ∥₁ },
     ghost within: { (a b : ℕ) → Holds (marks rows) a b → (a < 8) × (b < 8) },
 }
-

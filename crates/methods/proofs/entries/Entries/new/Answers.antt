@@ -6,7 +6,7 @@ use Rattle.methods.specs.Places.{going, place}
 use Rattle.methods.specs.declared.entries.Entry.{Entry}
 
 pub invariant_of-result : goal.invariant_of-result
-invariant_of-result c = (refl, (blank_small 32, tt))
+invariant_of-result c = record { whole = refl; small = blank_small 32 }
 
 pub returns : goal.returns
 unfolding going

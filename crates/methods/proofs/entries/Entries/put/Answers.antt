@@ -8,7 +8,7 @@ pub invariant_of-self : goal.invariant_of-self
 invariant_of-self c =
     let self = c.args.self.now in
     let whole = length-set self.places c.args.label (Some c.args.entry) ∙ self.whole in
-    (whole, (set_small self.places c.args.label c.args.entry (omega (arith, self.whole, c.requires)) c.requires.1 self.small, tt))
+    record { whole = whole; small = set_small self.places c.args.label c.args.entry (omega (arith, self.whole, c.requires)) c.requires.1 self.small }
 
 pub returns : goal.returns
 unfolding going

@@ -5,4 +5,4 @@ use Rattle.methods.proofs.method.Method.tie.Goals as goal
 pub invariant_of-self-2 : goal.invariant_of-self-2
 invariant_of-self-2 c =
     let self = c.args.self.now in
-    (small_with (items c.join.new.links) (items self.links) c.args.l _ c.join.ensures c.requires.0 c.requires.1 self.ends, tt)
+    record { ends = small_with (items c.store.new.links) (items self.links) c.args.l c.store.ensures c.requires.0 c.requires.1 self.ends }

@@ -5,7 +5,7 @@ use Rattle.methods.specs.Rows.{marks}
 use Rattle.methods.specs.SmallOrders.{before}
 
 pub invariant_of-result : goal.invariant_of-result
-invariant_of-result c = (∣ none_strict (marks (replicate 8 0)) none_marked ∣₁, (none_within 8 (marks (replicate 8 0)) none_marked, tt))
+invariant_of-result c = record { strict = ∣ none_strict (marks (replicate 8 0)) none_marked ∣₁; within = none_within 8 (marks (replicate 8 0)) none_marked }
 
 pub returns : goal.returns
 unfolding before

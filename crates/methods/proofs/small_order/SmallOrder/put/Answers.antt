@@ -9,13 +9,13 @@ use Rattle.methods.specs.SmallOrders.{before, refused}
 
 -- a pair that is not refused is between two steps, and the second is not before the first
 record Free (R : Relation) (a b : ℕ) : Type 0 where
-  small-a : a < 8
+  small_a : a < 8
   small_b : b < 8
   apart : a ≡ b → ⊥
   back : Holds R b a → ⊥
 
 free : (R : Relation) (a b : ℕ) → false ≡ refused R a b → Free R a b
-free R a b h = record { small-a = grind arith; small_b = grind arith; apart = λ e. grind arith; back = λ k. grind arith }
+free R a b h = record { small_a = grind arith; small_b = grind arith; apart = λ e. grind arith; back = λ k. grind arith }
 
 pub invariant_of-self : goal.invariant_of-self
 unfolding before
@@ -25,10 +25,11 @@ invariant_of-self c =
     let a = c.args.a in
     let b = c.args.b in
     let f = free old a b c.if-refuses.ensures in
-    let e = put_is self.rows c.grow_all.new.rows a b f.small-a f.small_b self.within c.grow_all.ensures in (
-      ∥∥₁_map self.strict (λ s. subst Strict (sym e) (put_strict old a b s f.apart f.back)),
-      (subst (Within 8) (sym e) (put_within 8 old a b f.small-a f.small_b self.within), tt),
-    )
+    let e = put_is self.rows c.grow_all.new.rows a b f.small_a f.small_b self.within c.grow_all.ensures in
+    record {
+      strict = ∥∥₁_map self.strict (λ s. subst Strict (sym e) (put_strict old a b s f.apart f.back));
+      within = subst (Within 8) (sym e) (put_within 8 old a b f.small_a f.small_b self.within);
+    }
 
 pub returns : goal.returns
 unfolding before
@@ -37,5 +38,5 @@ returns c =
     let f = free (marks self.rows) c.args.a c.args.b c.if-refuses.ensures in
     record {
       answer = grind (arith, c.if-refuses.ensures);
-      after = put_is self.rows c.grow_all.new.rows c.args.a c.args.b f.small-a f.small_b self.within c.grow_all.ensures;
+      after = put_is self.rows c.grow_all.new.rows c.args.a c.args.b f.small_a f.small_b self.within c.grow_all.ensures;
     }
