@@ -1,5 +1,6 @@
 //! Lines, what they are read as, and the rows of those that are turned down, written down from the rules.
 #![tactic(auto)]
+
 use line::{Command, parse};
 use page::{Answer, line_at};
 

@@ -1,5 +1,6 @@
 //! Both keepers put to the same operations, and examples written down from what an order is.
 #![tactic(auto)]
+
 ghost use Rattle.std.specs.Prelude.{◌≡◌, ◌+◌, ◌*◌, ◌%◌, ◌^◌};
 ghost use Rattle.order.specs.Operations.{LowPut};
 

@@ -2,6 +2,7 @@
 //!
 //! The plan and its keeper are two values, and what only asks for order cannot write the keeper. Nothing here allocates.
 #![tactic(auto)]
+
 mod asking;
 mod judging;
 mod linking;

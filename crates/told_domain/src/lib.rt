@@ -3,6 +3,7 @@
 //! It is all of a checker but the plan. From its opening on it holds only methods that fit their tasks. Nothing here
 //! allocates, and no public function asks anything of its caller.
 #![tactic(auto)]
+
 mod asking;
 mod method_lines;
 mod opening;

@@ -6,4 +6,6 @@ use Rattle.told_domain.proofs.told.Domain.append_need.Goals as goal
 pub invariant_of-self : goal.invariant_of-self
 invariant_of-self c =
     let self = c.args.self.now in
-    task_line self.phase (tasks self.known) (tasks c.append_need.new.self) (items self.list) self.draft (c.is_outside.ensures.same c.if-is_outside.false) (held self)
+    let kept =
+    task_line self.phase (tasks self.known) (tasks c.append_need.new.self) (items self.list) self.draft (c.is_outside.ensures.same c.if-is_outside.false) (held self) in
+    record { fitting = kept.fitting; drafting = kept.drafting; unused = kept.unused; room = kept.room }

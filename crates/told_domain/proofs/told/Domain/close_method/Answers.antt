@@ -24,8 +24,10 @@ invariant_of-self c =
     let self = c.args.self.now in
     let ts = tasks self.known in
     let free : (row c.close-answer.result).code ≡ 0 = eqb-true (row c.close-answer.result).code 0 (sym c.if-is_accepted.ensures) in
+    let kept =
     closed self.phase ts (items self.list) (items c.push.new.self) self.draft (c.is_outside.ensures.same c.if-is_outside.false) (stored c)
-    (closed_fits ts (method self.draft) 0 (sym (ap (λ (r : Row). r.code) c.close-answer.ensures) ∙ free)) (held self)
+    (closed_fits ts (method self.draft) 0 (sym (ap (λ (r : Row). r.code) c.close-answer.ensures) ∙ free)) (held self) in
+    record { fitting = kept.fitting; drafting = kept.drafting; unused = kept.unused; room = kept.room }
 
 pub returns-then-is_accepted : goal.returns-then-is_accepted
 returns-then-is_accepted c =

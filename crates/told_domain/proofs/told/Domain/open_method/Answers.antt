@@ -37,8 +37,10 @@ invariant_of-self c =
     let free : (first_of (method_causes ts c.len-number.result c.args.task) c.len-number.result).code ≡ 0 =
     grind (arith, there, c.in-Some.ensures, c.if-is_primitive.ensures) in
     let few : length (items self.list) < 32 = omega (arith, c.len-number.ensures.value) in
+    let kept =
     opened self.phase ts (items self.list) self.draft c.blank-self.result
-    (subst (Draft ts) (sym c.blank-self.ensures) (opened_draft ts c.len-number.result c.args.task free)) few (held self)
+    (subst (Draft ts) (sym c.blank-self.ensures) (opened_draft ts c.len-number.result c.args.task free)) few (held self) in
+    record { fitting = kept.fitting; drafting = kept.drafting; unused = kept.unused; room = kept.room }
 
 pub returns : goal.returns
 returns c =
