@@ -195,7 +195,7 @@ mod tests {
             consumer: 5,
         };
         assert_eq!(rt; threat.write(&mut page, 2), Some(13));
-        assert!(rt; &page[0..32] == b"..16,3,14,5\r\n...................");
-        assert!(rt; &page[32..60] == b"0,18446744073709551615,0,0\r\n");
+        assert!(rt; &page[0..32] == b"..16,3,14,5\r\n...................".as_slice());
+        assert!(rt; &page[32..60] == b"0,18446744073709551615,0,0\r\n".as_slice());
     }
 }

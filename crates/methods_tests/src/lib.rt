@@ -1,5 +1,6 @@
 //! Lines that tell tasks and methods, and their rows, written down from the rules.
 #![tactic(auto)]
+
 use domain::Kind;
 use line::{Command, parse};
 use page::{Answer, Row};

@@ -1,6 +1,7 @@
 //! Reads the domain of a truck's visit to a quarry's weighbridge, its tasks and methods, line by line, and says what becomes
 //! of each line.
 #![tactic(auto)]
+
 ghost use Rattle.std.specs.Prelude.{◌≡◌, length, OnOk, nat_lt};
 ghost use Rattle.page.specs.Lines.{lines};
 ghost use Rattle.told_domain.specs.Domains.{parts};
