@@ -2,6 +2,7 @@
 //!
 //! Nothing here allocates, and no public function asks anything of its caller.
 #![tactic(auto)]
+
 mod checker;
 mod plan_lines;
 mod running;

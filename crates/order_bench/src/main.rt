@@ -1,5 +1,6 @@
 //! How quick the keepers are: puts and questions each second, and what one put costs as the order grows.
 #![tactic(auto)]
+
 ghost use Rattle.std.specs.Prelude.{◌<◌};
 
 use order::{BitTable, Keeper, PairList};

@@ -3,6 +3,7 @@
 //! `include/yardcheck.h` says to a C programmer what the call does. Nothing here allocates, and the call asks nothing of its caller
 //! but that the two pieces of memory are there and do not overlap.
 #![tactic(auto)]
+
 ghost use Rattle.std.specs.Prelude.{◌≡◌};
 ghost use Rattle.terminal.specs.Calls.{Called};
 

@@ -1,5 +1,6 @@
 //! Prints the rows of the lines on standard input, a row for each line.
 #![tactic(auto)]
+
 ghost use Rattle.std.specs.Prelude.{◌≡◌, ◌≤◌, [], length, IfOk};
 ghost use Rattle.page.specs.Lines.{lines};
 ghost use Rattle.checker.specs.Runs.{rows_text};
