@@ -9,14 +9,14 @@ use Rattle.semantics.specs.Causes.{told}
 use Rattle.semantics.specs.Orders.{In}
 use Rattle.semantics.specs.Plans.{steps_of}
 use Rattle.semantics.specs.Promise.{answered, History, state}
-use Rattle.semantics.specs.Rules.{row_for, state_for, tell, verdict}
+use Rattle.semantics.specs.Rules.{row_for, state_for}
 use Rattle.semantics.specs.States.{next, State}
 use Rattle.semantics.proofs.Alike.{numbers_below}
 use Rattle.semantics.proofs.Capacity.{few_steps}
 use Rattle.semantics.proofs.Histories.{in_step}
 use Rattle.semantics.proofs.Inherited.{nth_below}
 use Rattle.semantics.proofs.Promise.{promise_holds}
-use Rattle.checker.specs.Meaning.{Held, Means, state_with}
+use Rattle.checker.specs.Meaning.{Held, Means}
 use Rattle.checker.specs.Outcomes.{Obeys, Outcome, Reached}
 use Rattle.checker.specs.Promises.{Kept}
 

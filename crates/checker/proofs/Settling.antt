@@ -4,19 +4,18 @@ use Rattle.line.specs.declared.command.Command.{Command}
 use Rattle.line.specs.declared.command.Command.TheVariants.{AppendAdd, AppendDelete, AppendNeed, CloseMethod, Decompose, EndPhase, Judge, NewCompound, NewPrimitive, NewStep, OpenMethod, PutLink, PutOrder, RouteAdd, RouteNeed, Take}
 use Rattle.page.specs.declared.answer.Row.{Row}
 use Rattle.semantics.specs.Causes.{told}
-use Rattle.semantics.specs.Facts.{among, facts_after}
 use Rattle.semantics.specs.Methods as meant
 use Rattle.semantics.specs.Plans as planned
 use Rattle.semantics.specs.Rules.{verdict}
 use Rattle.semantics.specs.States.{next, State}
 use Rattle.semantics.specs.Tasks.{Task}
 use Rattle.semantics.specs.declared.phase.Phase.{Phase}
-use Rattle.semantics.specs.declared.phase.Phase.TheVariants.{Initial, MethodOpen, Methods, Refine, Running, Tasks}
+use Rattle.semantics.specs.declared.phase.Phase.TheVariants.{Running}
 use Rattle.told_domain.specs.Domains.{Parts}
 use Rattle.plan.specs.Following.{Follows}
 use Rattle.plan.specs.declared.progress.Progress.{Progress}
-use Rattle.checker.specs.Meaning.{Held, Means, state_with}
-use Rattle.checker.specs.Outcomes.{Obeys, Outcome, Reached}
+use Rattle.checker.specs.Meaning.{Held, state_with}
+use Rattle.checker.specs.Outcomes.{Outcome, Reached}
 
 -- every command but R
 abbrev pub Still : Command → Type 0

@@ -7,7 +7,7 @@ use Rattle.page.specs.declared.answer.Row.{Row}
 use Rattle.semantics.specs.Causes.{Cause, first_of, told}
 use Rattle.semantics.specs.Methods.{link_of, Method, order_of, step_of}
 use Rattle.semantics.specs.OpenLines.{link_causes, order_causes, step_causes}
-use Rattle.semantics.specs.Orders.{put, Relation}
+use Rattle.semantics.specs.Orders.{Relation}
 use Rattle.semantics.specs.Plans as planned
 use Rattle.semantics.specs.Rules.{outside, verdict}
 use Rattle.semantics.specs.States.{next, plan_link, plan_order, plan_step, State}
@@ -15,10 +15,9 @@ use Rattle.semantics.specs.declared.link.Link.{Link}
 use Rattle.semantics.specs.declared.phase.Phase.{Phase}
 use Rattle.semantics.specs.declared.phase.Phase.TheVariants.{Initial, MethodOpen, Methods, Refine, Running, Tasks}
 use Rattle.told_domain.specs.Domains.{in_phase, Parts, with_draft}
-use Rattle.plan.specs.Following.{Follows}
 use Rattle.checker.proofs.Settling.{settled, Still}
 use Rattle.checker.specs.Meaning.{Held, state_with}
-use Rattle.checker.specs.Outcomes.{Obeys, Outcome, Reached}
+use Rattle.checker.specs.Outcomes.{Obeys, Reached}
 
 -- told of what parts of a state are made of
 told_plan : (w : Row) (N st : State) (d : Parts) (p q : planned.Plan) (taken : List ℕ) → N ≡ state_with d q taken → st ≡ state_with d p taken → told w N st ≡ state_with d (told w q p) taken

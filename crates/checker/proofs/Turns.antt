@@ -1,5 +1,5 @@
 -- What one turn of a run keeps.
-use Rattle.std.proofs.Common.{◌≡◌, ℕ, ◌+◌, ◌-◌, ◌*◌, ◌<◌, ◌≤◌, Bool, true, false, cond, leb, ◌⊎◌, List, [], ◌∷◌, ◌++◌, map, length, drop, Some, None, Option, unwrap_or, sym, refl, ap, ◌∙◌, subst, inl, inr, append_assoc, append-nil, zero-add, arith, length-append, MatchOption}
+use Rattle.std.proofs.Common.{◌≡◌, ℕ, ◌+◌, ◌-◌, ◌*◌, ◌<◌, ◌≤◌, Bool, true, false, cond, leb, ◌⊎◌, List, [], ◌∷◌, ◌++◌, length, drop, Some, None, Option, unwrap_or, sym, refl, ap, ◌∙◌, subst, inl, inr, append_assoc, append-nil, zero-add, arith, length-append, MatchOption}
 use native.Mathlib.Nat.{sub-zero}
 use Rattle.std.proofs.lemmas.Bool.{leb-true, leb-false}
 use Rattle.page.proofs.Steps.{broken_next, first_of, none_of}
@@ -7,7 +7,7 @@ use Rattle.page.proofs.Writes.{length_written, written_on}
 use Rattle.page.specs.Lines.{broken, Broken, first_line, put_together}
 use Rattle.page.specs.declared.answer.Row.{Row}
 use Rattle.page.specs.Rows.{fits, row_text, written}
-use Rattle.semantics.specs.Promise.{answered, History, Promises, state}
+use Rattle.semantics.specs.Promise.{answered, History, state}
 use Rattle.semantics.proofs.Promise.{promise_holds}
 use Rattle.checker.specs.Meaning.{Held, Means}
 use Rattle.checker.specs.Promises.{Kept}

@@ -4,10 +4,10 @@ use Rattle.std.proofs.lemmas.List.{at_drop_more}
 use Rattle.std.proofs.lemmas.Bool.{cases_eq, cond-true, eq-eqb, ne_eqb}
 use Rattle.std.proofs.lemmas.Bool.Decides.{nat_tests}
 use Rattle.order.specs.Puts.{can_put, nothing, Order}
-use Rattle.order.specs.Stored.{closure, onward, others, put_or_not, put_some, Stored, through}
+use Rattle.order.specs.Stored.{closure, onward, others, put_or_not, put_some, through}
 use Rattle.order.proofs.Copies.{free_within}
 use Rattle.order.specs.Lists.{closure_has, closure_least}
-use Rattle.order.specs.Ordered.{free_put, order_dropped, order_nothing, same_pairs}
+use Rattle.order.specs.Ordered.{free_put, order_dropped, same_pairs}
 use Rattle.semantics.specs.Closures.{Listed}
 use Rattle.semantics.specs.Orders.{dropped, Holds, put, Relation, Transitive}
 use Rattle.semantics.proofs.Orders.{put_smallest}

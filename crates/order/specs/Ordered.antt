@@ -7,7 +7,7 @@ use Rattle.std.proofs.Common.{subst, sym, arith}
 use Rattle.std.proofs.Math.Bridge.{le_prop}
 use Rattle.std.proofs.lemmas.Bool.Decides.{nat_tests}
 use Rattle.order.specs.Puts.{can_put, nothing, Order}
-use Rattle.semantics.specs.Orders.{dropped, Holds, put, Relation, Smallest, Strict}
+use Rattle.semantics.specs.Orders.{dropped, Holds, put, Relation, Smallest}
 use Rattle.semantics.proofs.Orders.{is_false, put_cases, put_smallest, put_strict}
 
 -- relations that answer alike are equal

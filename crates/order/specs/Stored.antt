@@ -1,5 +1,5 @@
 -- The order that follows from a list of pairs.
-use Rattle.std.specs.Prelude.{◌≡◌, ℕ, ◌<◌, Bool, true, false, cond, not, ◌&&◌, ◌||◌, List, [], ◌∷◌, ◌++◌, length, take, ◌==◌, slice_index_or}
+use Rattle.std.specs.Prelude.{◌≡◌, ℕ, ◌<◌, false, cond, not, ◌&&◌, ◌||◌, List, [], ◌∷◌, ◌++◌, length, take, ◌==◌, slice_index_or}
 use Rattle.order.specs.Puts.{can_put, nothing, Order}
 use Rattle.semantics.specs.Orders.{put, Relation}
 use Rattle.semantics.specs.Closures.{put_all}

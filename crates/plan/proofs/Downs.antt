@@ -1,5 +1,5 @@
 -- Loops that go down a list: what a recursion over the list gives for the rest from a place on.
-use Rattle.std.proofs.Common.{◌≡◌, ℕ, ◌+◌, ◌-◌, ◌<◌, ◌≤◌, List, [], ◌∷◌, length, get_or, drop, sym, refl, ap, ◌∙◌, subst, arith}
+use Rattle.std.proofs.Common.{◌≡◌, ℕ, ◌+◌, ◌-◌, ◌<◌, ◌≤◌, List, [], ◌∷◌, length, get_or, drop, sym, ap, ◌∙◌, arith}
 use Rattle.semantics.specs.declared.link.Link.{Link}
 use Rattle.std.proofs.lemmas.List.{at_drop_more, at_drop_all}
 

@@ -1,5 +1,5 @@
 -- A mask is the sum of its powers of two.
-use Rattle.std.proofs.Common.{◌≡◌, ℕ, zero, suc, ◌+◌, ◌*◌, ◌/◌, ◌%◌, ◌^◌, ◌<◌, cond, eqb, sym, refl, ap, ◌∙◌, ap₂, mod-lt, mod-eq_of_lt, one-add, arith, lit<}
+use Rattle.std.proofs.Common.{◌≡◌, ℕ, zero, suc, ◌+◌, ◌*◌, ◌/◌, ◌%◌, ◌^◌, ◌<◌, cond, eqb, sym, ap, ◌∙◌, ap₂, mod-lt, mod-eq_of_lt, one-add, arith, lit<}
 use lib.Pow.{mod-pow-add}
 use Rattle.masks.specs.Bits.{bit}
 use Rattle.semantics.specs.Facts.{as_sum, Facts, sum_below}

@@ -13,10 +13,9 @@ use Rattle.semantics.specs.Tasks.{is_primitive, Task}
 use Rattle.semantics.specs.declared.link.Link.{Link}
 use Rattle.semantics.proofs.Allowed.{Room}
 use Rattle.semantics.proofs.Closures.{chained_into, chained_put, chained_same}
-use Rattle.semantics.proofs.Decomposes.{gives}
 use Rattle.semantics.proofs.Decomposing.{primitive_there}
 use Rattle.semantics.proofs.Links.{linked_with}
-use Rattle.semantics.proofs.Orders.{first, put_cases, put_new, put_old, put_strict}
+use Rattle.semantics.proofs.Orders.{put_cases, put_new, put_old, put_strict}
 use Rattle.semantics.proofs.Plans.{step_in}
 
 -- The domain and the open method go the same way in the checker and in the book.

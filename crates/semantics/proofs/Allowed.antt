@@ -8,18 +8,16 @@ use Rattle.page.specs.declared.answer.Row.{Row}
 use Rattle.semantics.specs.Decomposing.{decompose_step}
 use Rattle.semantics.specs.Drafts.{AddGoes, NeedGoes, OwnEnds}
 use Rattle.semantics.specs.Facts.{as_sum, CanTake, facts_after}
-use Rattle.semantics.specs.Methods.{Method, own_task_of}
+use Rattle.semantics.specs.Methods.{Method}
 use Rattle.semantics.specs.OpenLines.{task_at}
 use Rattle.semantics.specs.Orders.{Holds, In}
-use Rattle.semantics.specs.PlanLines.{producer, threatens}
 use Rattle.semantics.specs.Plans.{both_primitive, Executable, Linked, Plan, Protects, Sound, steps_of, task_of, Threat}
-use Rattle.semantics.specs.Rules.{steps_now, verdict}
+use Rattle.semantics.specs.Rules.{steps_now}
 use Rattle.semantics.specs.States.{State}
 use Rattle.semantics.specs.Tasks.{Labelled, Task}
 use Rattle.semantics.specs.declared.link.Link.{Link}
 use Rattle.semantics.specs.declared.phase.Phase.{Phase}
 use Rattle.semantics.specs.declared.phase.Phase.TheVariants.{Initial, MethodOpen, Methods, Refine, Running, Tasks}
-use Rattle.semantics.proofs.Decomposes.{gives}
 
 abbrev pub task_now : State → ℕ → Option Task
 task_now st s = task_at st.tasks (steps_now st) s

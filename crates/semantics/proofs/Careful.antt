@@ -20,7 +20,6 @@ use Rattle.semantics.specs.declared.link.Link.{Link}
 use Rattle.semantics.specs.declared.phase.Phase.{Phase}
 use Rattle.semantics.specs.declared.phase.Phase.TheVariants.{Initial, MethodOpen, Methods, Refine, Running, Tasks}
 use Rattle.semantics.proofs.Allowed.{Allowed, Careful, Lawful, method_task, PlanOpen, task_now}
-use Rattle.semantics.proofs.Decomposes.{gives}
 use Rattle.semantics.proofs.Decomposing.{upfrom_in}
 use Rattle.semantics.proofs.Inherited.{nth_below, nth_there}
 use Rattle.semantics.proofs.Plans.{among_in, in_among, step_in}

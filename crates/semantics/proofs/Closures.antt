@@ -3,7 +3,6 @@ use Rattle.std.proofs.Common.{◌≡◌, ℕ, Bool, true, false, ◌||◌, eqb, 
 use Rattle.std.proofs.lemmas.Bool.{eqb-true, or_cases}
 use Rattle.std.proofs.lemmas.Bool.Decides.{nat_tests}
 use Rattle.semantics.specs.Closures.{And, chain, Chained, Listed, pair, Pairs, try_all, try_put}
-use Rattle.semantics.specs.OpenLines.{there}
 use Rattle.semantics.specs.Orders.{Holds, put, Relation, Strict}
 use Rattle.semantics.proofs.Orders.{put_cases, put_new, put_old, put_smallest, put_strict}
 

@@ -6,7 +6,6 @@ use Rattle.semantics.specs.Closures.{Chained, pair}
 use Rattle.semantics.specs.Decomposing.{after_new, before_new, decompose_step, Inherits, kept, links_after, moved, passed_down, renumbered, steps_after}
 use Rattle.semantics.specs.Methods.{Fits, Method}
 use Rattle.semantics.specs.Orders.{Holds}
-use Rattle.semantics.specs.PlanLines.{producer}
 use Rattle.semantics.specs.Plans.{Linked, Plan, Sound, with_link, with_links}
 use Rattle.semantics.specs.Tasks.{Task}
 use Rattle.semantics.specs.Theorems.{Arrives, Decomposes, Decomposition}

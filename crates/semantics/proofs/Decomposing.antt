@@ -2,7 +2,6 @@
 use Rattle.std.proofs.Common.{◌≡◌, ℕ, zero, suc, ◌+◌, ◌<◌, Bool, true, false, cond, ◌&&◌, ◌⊎◌, ◌↔◌, List, [], ◌∷◌, ◌++◌, length, Some, None, Option, sym, refl, ap, ◌∙◌, subst, subst₂, inl, inr, ⊎_elim, true≢false, arith}
 use Rattle.std.proofs.lemmas.Bool.{and_parts}
 use Rattle.std.specs.List.{slice_get}
-use Rattle.page.specs.Answers.{row}
 use Rattle.semantics.specs.Book.{BookPlan, decomposed}
 use Rattle.semantics.specs.Closures.{Chained, Listed, pair, Pairs, try_all}
 use Rattle.semantics.specs.Decomposing.{after_new, before_new, by_link, decompose_step, each_to, in_method, Inherits, kept, link_pairs, LinkPair, links_after, New, new_pairs, pairs_among, pairs_of, plan_with, Primitive, row_pairs, shifted, steps_after, to_each, turned, upfrom}

@@ -1,5 +1,5 @@
 -- An accepted line of an open method keeps what is told of it fitting.
-use Rattle.std.proofs.Common.{◌≡◌, ℕ, false, ltb, leb, ◌⊎◌, List, [], ◌∷◌, map, length, Some, Option, sym, refl, ap, ◌∙◌, inl, inr, ⊎_elim, arith}
+use Rattle.std.proofs.Common.{◌≡◌, ℕ, false, ltb, leb, List, [], ◌∷◌, map, length, Some, Option, sym, refl, ap, ◌∙◌, inl, inr, ⊎_elim, arith}
 use Rattle.std.proofs.lemmas.List.{length-map}
 use Rattle.std.proofs.lemmas.Bool.{ltb-true}
 use Rattle.std.specs.List.{slice_get}
@@ -10,8 +10,7 @@ use Rattle.semantics.specs.OpenLines.{add_entry_causes, close_causes, link_cause
 use Rattle.semantics.specs.States.{opening_plan, State}
 use Rattle.semantics.specs.Tasks.{adds_of, is_primitive, needs_of, Task}
 use Rattle.semantics.specs.declared.link.Link.{Link}
-use Rattle.semantics.specs.declared.phase.Phase.{Phase}
-use Rattle.semantics.specs.declared.phase.Phase.TheVariants.{Initial, MethodOpen, Refine}
+use Rattle.semantics.specs.declared.phase.Phase.TheVariants.{MethodOpen}
 use Rattle.semantics.proofs.Allowed.{PlanOpen}
 use Rattle.semantics.proofs.Careful.{at_add_goes, at_link, at_need_goes, at_order, at_step, both_none, entered}
 use Rattle.semantics.proofs.Good.{draft_add, draft_blank, draft_link, draft_need, draft_order, draft_step, draft_whole}

@@ -7,10 +7,8 @@ use Rattle.line.specs.declared.command.Command.TheVariants.{AppendAdd, AppendDel
 use Rattle.semantics.specs.Book.{Book, BookPlan, decompose_by, decomposed, enter, fed, write_link, write_order, write_step}
 use Rattle.semantics.specs.Decomposing.{decompose_step}
 use Rattle.semantics.specs.Methods.{add_entry, blank, link_of, Method, need_entry, order_of, step_of}
-use Rattle.semantics.specs.OpenLines.{there}
 use Rattle.semantics.specs.Orders.{Holds}
 use Rattle.semantics.specs.Phases.{is_refine, phase_after}
-use Rattle.semantics.specs.PlanLines.{producer}
 use Rattle.semantics.specs.Plans.{Framed, Plan, Sound}
 use Rattle.semantics.specs.States.{decompose_with, next, plan_link, plan_or, plan_order, plan_step, State, with_plan}
 use Rattle.semantics.specs.Tasks.{bare, changed, is_primitive, Task, with_add, with_delete, with_need}

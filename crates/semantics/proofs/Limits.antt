@@ -1,5 +1,5 @@
 -- No limit is ever passed.
-use Rattle.std.proofs.Common.{◌≡◌, ℕ, zero, suc, ◌+◌, ◌<◌, ◌≤◌, Bool, true, false, not, ◌&&◌, leb, ◌⊎◌, List, [], ◌∷◌, ◌++◌, map, length, Some, None, Ok, Err, Option, Result, sym, refl, ap, ◌∙◌, subst, inl, inr, ⊎_elim, arith}
+use Rattle.std.proofs.Common.{◌≡◌, ℕ, zero, suc, ◌<◌, ◌≤◌, Bool, true, false, not, ◌&&◌, leb, ◌⊎◌, List, [], ◌∷◌, ◌++◌, map, length, Some, None, Ok, Err, Option, Result, sym, refl, ap, ◌∙◌, subst, inl, inr, ⊎_elim, arith}
 use Rattle.std.proofs.lemmas.Bool.{leb-false, ltb-false, or_parts}
 use Rattle.std.specs.List.{slice_get}
 use Rattle.line.specs.Parse.{parsed}
@@ -13,10 +13,10 @@ use Rattle.semantics.specs.Laws.{Limits, LimitsHold, ShortLists, SmallMethod}
 use Rattle.semantics.specs.Methods.{Method}
 use Rattle.semantics.specs.Orders.{dropped, Relation}
 use Rattle.semantics.specs.Phases.{phase_after}
-use Rattle.semantics.specs.PlanLines.{producer, too_many}
+use Rattle.semantics.specs.PlanLines.{too_many}
 use Rattle.semantics.specs.Plans.{has_link, Plan, with_link}
 use Rattle.semantics.specs.Promise.{state}
-use Rattle.semantics.specs.Rules.{causes, links_limit, links_now, open_one, row_for, state_for, verdict}
+use Rattle.semantics.specs.Rules.{causes, links_limit, links_now, row_for, state_for, verdict}
 use Rattle.semantics.specs.States.{next, opening, State}
 use Rattle.semantics.specs.Tasks.{adds_of, bare, changed, deletes_of, needs_of, Task, with_add, with_delete, with_need}
 use Rattle.semantics.specs.declared.link.Link.{Link}

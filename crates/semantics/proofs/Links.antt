@@ -1,6 +1,5 @@
 -- Links kept once: what stands in the list.
-use Rattle.std.proofs.Common.{◌≡◌, ◌+◌, Bool, true, false, cond, ◌⊎◌, List, [], ◌∷◌, ◌++◌, sym, refl, subst, inl, inr, ⊎_elim, arith}
-use Rattle.semantics.specs.PlanLines.{producer}
+use Rattle.std.proofs.Common.{◌≡◌, Bool, true, false, cond, ◌⊎◌, List, [], ◌∷◌, ◌++◌, sym, refl, subst, inl, inr, ⊎_elim, arith}
 use Rattle.semantics.specs.Plans.{has_link, Linked, same_link, with_link, with_links}
 use Rattle.semantics.specs.declared.link.Link.{Link}
 

@@ -1,8 +1,6 @@
 -- Strict orders: a pair put, a first step, and an order that lists every step.
 use Rattle.std.proofs.Common.{◌≡◌, ℕ, Bool, true, false, cond, ◌⊎◌, ◌↔◌, List, [], ◌∷◌, sym, refl, inl, inr, ⊎_elim, arith}
 use Rattle.std.proofs.lemmas.Bool.{cases_Bool}
-use Rattle.semantics.specs.Facts.{after}
-use Rattle.semantics.specs.OpenLines.{there}
 use Rattle.semantics.specs.Orders.{Earlier, Holds, In, Once, Permitted, put, Relation, Smallest, Strict}
 
 -- a test that does not come out true

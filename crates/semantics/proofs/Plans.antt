@@ -3,9 +3,7 @@ use Rattle.std.proofs.Common.{◌≡◌, ℕ, zero, suc, ◌+◌, ◌≤◌, tru
 use Rattle.std.proofs.lemmas.Bool.{cases_Bool, cases_eq}
 use Rattle.std.specs.List.{slice_get}
 use Rattle.semantics.specs.Facts.{after_step, among, CanTake, facts_after, Taken}
-use Rattle.semantics.specs.OpenLines.{is_step}
 use Rattle.semantics.specs.Orders.{Holds, In, Once, Strict}
-use Rattle.semantics.specs.PlanLines.{threat}
 use Rattle.semantics.specs.Plans.{at_task, Executable, Linked, Plan, present_from, Protects, Sound, steps_of, task_of, Threat}
 use Rattle.semantics.specs.States.{done}
 use Rattle.semantics.specs.Tasks.{Labelled, Task}

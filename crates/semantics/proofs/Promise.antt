@@ -1,14 +1,13 @@
 -- The promise over whole histories.
-use Rattle.std.proofs.Common.{◌≡◌, ℕ, ◌<◌, ◌≤◌, true, ◌⊎◌, List, ◌∷◌, length, Some, Ok, Option, sym, ap, ◌∙◌, subst, ⊎_elim, arith}
+use Rattle.std.proofs.Common.{◌≡◌, ℕ, ◌<◌, ◌≤◌, true, List, ◌∷◌, length, Some, Ok, Option, sym, ap, ◌∙◌, subst, ⊎_elim, arith}
 use mathlib.Core.Path.{fun_ext}
-use Rattle.std.proofs.lemmas.Bool.Decides.{nat_tests as tells}
 use Rattle.line.proofs.Texts.{one_text}
 use Rattle.line.specs.Texts.{text_of}
 use Rattle.line.specs.declared.command.Command.{Command}
 use Rattle.line.specs.declared.command.Command.TheVariants.{Judge, Take}
 use Rattle.page.specs.declared.answer.Row.{Row}
 use Rattle.semantics.specs.Book.{Book, task_in_book}
-use Rattle.semantics.specs.Facts.{after, as_sum, CanTake, facts_after}
+use Rattle.semantics.specs.Facts.{as_sum, CanTake, facts_after}
 use Rattle.semantics.specs.Orders.{Earlier, Holds, In, Permitted}
 use Rattle.semantics.specs.Plans.{Linked, present_from, Sound, steps_of, task_of}
 use Rattle.semantics.specs.Promise.{Accepted, answered, AsInTheBook, Before, BetweenInSomeOrder, book, CanBeTaken, Foremost, History, IsStep, IsTaken, PromiseHolds, Promises, state, Tells}
@@ -21,7 +20,7 @@ use Rattle.semantics.proofs.Alike.{numbers_below}
 use Rattle.semantics.proofs.Capacity.{few_steps}
 use Rattle.semantics.proofs.Careful.{careful}
 use Rattle.semantics.proofs.Histories.{always, At, in_step, InStep, lawful}
-use Rattle.semantics.proofs.Orders.{permitted, permitted_less}
+use Rattle.semantics.proofs.Orders.{permitted_less}
 use Rattle.semantics.proofs.Plans.{in_or_not, needs_are_met, some_step_is_next, threat_comes_true}
 
 -- an answer to a line that tells a command

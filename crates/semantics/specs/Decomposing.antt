@@ -1,5 +1,5 @@
 -- The plan that a decomposition gives: in set terms, and as it is computed.
-use Rattle.std.specs.Prelude.{◌≡◌, ℕ, zero, suc, ◌+◌, ◌<◌, ◌≤◌, Bool, true, false, cond, List, [], ◌∷◌, ◌++◌, map, length, set, Some, None, Option, ◌==◌, ◌≢◌, slice_set}
+use Rattle.std.specs.Prelude.{◌≡◌, ℕ, zero, suc, ◌+◌, ◌<◌, ◌≤◌, Bool, true, false, cond, List, [], ◌∷◌, ◌++◌, map, length, Some, None, Option, ◌==◌, ◌≢◌, slice_set}
 use Rattle.std.specs.List.{slice_get}
 use Rattle.semantics.specs.Closures.{Pairs, try_all}
 use Rattle.semantics.specs.Methods.{Method}

@@ -7,10 +7,9 @@ use Rattle.page.specs.declared.answer.Row.{Row}
 use Rattle.semantics.specs.Causes.{Cause}
 use Rattle.semantics.specs.Methods.{Fits, Method}
 use Rattle.semantics.specs.Orders.{Holds, In}
-use Rattle.semantics.specs.PlanLines.{threat}
 use Rattle.semantics.specs.Plans.{Executable, Framed, Linked, Protects, Sound, steps_of, Supplied, task_of, Threat}
 use Rattle.semantics.specs.Promise.{History, state}
-use Rattle.semantics.specs.Rules.{causes, number_told, open_one, verdict}
+use Rattle.semantics.specs.Rules.{causes, number_told, verdict}
 use Rattle.semantics.specs.States.{State}
 use Rattle.semantics.specs.Tasks.{Labelled, Task}
 use Rattle.semantics.specs.declared.link.Link.{Link}

@@ -1,5 +1,5 @@
 -- The worked listing and its variants: texts told to a new checker with 64 step numbers, and the rows that they end with.
-use Rattle.std.specs.Prelude.{◌≡◌, ℕ, ◌+◌, ◌-◌, cond, ◌||◌, List, [], ◌∷◌, ◌++◌, map, length, drop, replicate, codes, ◌==◌}
+use Rattle.std.specs.Prelude.{◌≡◌, ℕ, ◌-◌, cond, List, [], ◌∷◌, ◌++◌, map, length, drop, replicate, codes, ◌==◌}
 use Rattle.page.specs.Answers.{as_row}
 use Rattle.page.specs.Lines.{lines}
 use Rattle.page.specs.declared.answer.Row.{Row}

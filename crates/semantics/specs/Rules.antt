@@ -13,7 +13,7 @@ use Rattle.semantics.specs.Facts.{as_sum, facts_after}
 use Rattle.semantics.specs.OpenLines.{add_entry_causes, close_causes, link_causes, method_causes, need_entry_causes, order_causes, step_causes}
 use Rattle.semantics.specs.Orders.{Relation}
 use Rattle.semantics.specs.Phases.{where_open}
-use Rattle.semantics.specs.PlanLines.{decompose_causes, judge_causes, producer, take_causes}
+use Rattle.semantics.specs.PlanLines.{decompose_causes, judge_causes, take_causes}
 use Rattle.semantics.specs.Plans.{steps_of}
 use Rattle.semantics.specs.States.{next, State}
 use Rattle.semantics.specs.TaskLines.{add_causes, delete_causes, need_causes, task_causes}

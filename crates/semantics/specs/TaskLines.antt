@@ -1,5 +1,5 @@
 -- The lines that tell tasks: their causes after the phase, the number that they answer, and what they leave.
-use Rattle.std.specs.Prelude.{ℕ, Bool, true, false, not, ◌||◌, List, [], ◌∷◌, ◌++◌, length, ◌==◌, nat_le, nat_lt}
+use Rattle.std.specs.Prelude.{ℕ, Bool, not, ◌||◌, List, [], ◌∷◌, ◌++◌, length, ◌==◌, nat_le, nat_lt}
 use Rattle.std.specs.List.{slice_get}
 use Rattle.semantics.specs.Tasks.{Task, bare, with_need, with_add, with_delete, changed, needs_of, adds_of, deletes_of, is_primitive}
 use Rattle.semantics.specs.Causes.{Cause, when, nameless}

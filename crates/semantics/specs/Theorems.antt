@@ -2,13 +2,12 @@
 use Rattle.std.specs.Prelude.{◌≡◌, ℕ, ◌+◌, true, ◌⊎◌, ◌↔◌, List, [], length, Some, None, ◌≢◌}
 use Rattle.std.specs.List.{slice_get}
 use Rattle.semantics.specs.Closures.{Chained, Listed, try_all}
-use Rattle.semantics.specs.Decomposing.{after_new, before_new, decompose_step, Inherits, kept, links_after, New, passed_down, renumbered, steps_after}
+use Rattle.semantics.specs.Decomposing.{decompose_step, Inherits, links_after, New, passed_down, renumbered, steps_after}
 use Rattle.semantics.specs.Facts.{CanTake, facts_after, Taken}
 use Rattle.semantics.specs.Methods.{Fits, Method}
 use Rattle.semantics.specs.Orders.{Earlier, Holds, In, Permitted, put, Relation, Smallest, Strict, Transitive}
-use Rattle.semantics.specs.PlanLines.{producer}
 use Rattle.semantics.specs.Plans.{Executable, Framed, Linked, Plan, PrimitivePlan, Protects, Sound, steps_of, task_of, Threat}
-use Rattle.semantics.specs.States.{done, plan_step}
+use Rattle.semantics.specs.States.{plan_step}
 use Rattle.semantics.specs.Tasks.{Task}
 use Rattle.semantics.specs.declared.link.Link.{Link}
 

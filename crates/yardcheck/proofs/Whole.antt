@@ -1,8 +1,8 @@
 -- On a page with room for a row for each byte of the text, a run tells every line.
-use Rattle.std.proofs.Common.{◌≡◌, ℕ, suc, ◌+◌, ◌-◌, ◌*◌, ◌<◌, ◌≤◌, Bool, true, false, cond, ◌&&◌, eqb, leb, List, [], ◌∷◌, ◌++◌, length, take, drop, sym, refl, ap, ◌∙◌, subst, ⊎_elim, arith}
+use Rattle.std.proofs.Common.{◌≡◌, ℕ, suc, ◌+◌, ◌-◌, ◌*◌, ◌≤◌, Bool, true, false, cond, ◌&&◌, eqb, leb, List, [], ◌∷◌, ◌++◌, length, take, drop, refl, ap, ◌∙◌, ⊎_elim, arith}
 use Rattle.std.proofs.lemmas.List.{take_all, take-append-le}
 use Rattle.page.specs.Lines.{broken, Broken, cr_first, lines, on_first, starts_lf}
-use Rattle.page.specs.Rows.{row_text, written}
+use Rattle.page.specs.Rows.{row_text}
 use Rattle.semantics.specs.Promise.{answered, History}
 use Rattle.checker.specs.Meaning.{Held}
 use Rattle.checker.specs.Runs.{rows_text, Runs, texts, told_lines, told_within}

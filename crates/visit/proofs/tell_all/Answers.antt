@@ -1,4 +1,4 @@
-use Rattle.std.proofs.Common.{◌≡◌, ℕ, List, drop, sym, ap, ◌∙◌, arith}
+use Rattle.std.proofs.Common.{◌≡◌, drop, sym, ap, ◌∙◌, arith}
 use Rattle.line.specs.Parse.{parsed}
 use Rattle.page.specs.Lines.{lines}
 use Rattle.page.proofs.Steps.{lines_step}

@@ -1,4 +1,4 @@
-use Rattle.std.proofs.Common.{◌≡◌, ◌*◌, [], length, drop, ◌∙◌, arith}
+use Rattle.std.proofs.Common.{◌≡◌, ◌*◌, [], length, drop, ◌∙◌}
 use Rattle.yardcheck.proofs.Whole.{all_rows, given_back}
 use Rattle.yardcheck.proofs.rows_of.Goals as goal
 

@@ -1,4 +1,4 @@
-use Rattle.std.proofs.Common.{◌≡◌, sym, ap, ◌∙◌, arith}
+use Rattle.std.proofs.Common.{◌∙◌, arith}
 use Rattle.line.specs.Fields.{left}
 use Rattle.line.proofs.Counting.{handed, none_left, start, turn, all_read, count_agrees}
 use Rattle.line.proofs.parsing.numbers.Goals as goal

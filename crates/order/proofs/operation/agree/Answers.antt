@@ -1,4 +1,4 @@
-use Rattle.std.proofs.Common.{◌≡◌, false, sym, refl, ◌∙◌, arith}
+use Rattle.std.proofs.Common.{◌≡◌, false, sym, refl, ◌∙◌}
 use Rattle.std.proofs.lemmas.List.{at_drop_all}
 use Rattle.order.specs.Operations.{same_answers}
 use Rattle.order.proofs.Tries.{agree_stop, agree_turn, low_alike, same_capacity}

@@ -1,4 +1,4 @@
-use Rattle.std.proofs.Common.{◌≡◌, ℕ, ◌<◌, take, sym, subst, arith, lit<}
+use Rattle.std.proofs.Common.{ℕ, ◌<◌, take, sym, subst, arith, lit<}
 use lib.Bits.{bit_or}
 use Rattle.std.proofs.lemmas.Nat.{or_lt}
 use Rattle.masks.proofs.Bits.{or_more}

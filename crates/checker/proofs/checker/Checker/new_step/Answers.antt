@@ -5,7 +5,6 @@ use Rattle.semantics.specs.Causes.{first_of}
 use Rattle.semantics.specs.OpenLines.{step_causes}
 use Rattle.semantics.specs.States.{plan_step}
 use Rattle.semantics.specs.Tasks.{Task}
-use Rattle.semantics.specs.declared.phase.Phase.TheVariants.{Initial}
 use Rattle.plan.specs.Meaning.{plan}
 use Rattle.checker.proofs.Stepping.{by_plan, draft_step_line, plan_step_line}
 use Rattle.checker.proofs.checker.Checker.new_step.Goals as goal

@@ -1,4 +1,4 @@
-use Rattle.std.proofs.Common.{◌≡◌, List, length, sym, ap, ◌∙◌, inl, inr, ⊎_elim}
+use Rattle.std.proofs.Common.{List, sym, ap, ◌∙◌, inl, inr, ⊎_elim}
 use Rattle.line.specs.declared.command.Command.TheVariants.{PutLink}
 use Rattle.page.specs.Answers.{row}
 use Rattle.semantics.specs.Causes.{first_of, told}

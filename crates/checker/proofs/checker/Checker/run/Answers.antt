@@ -1,7 +1,6 @@
 use Rattle.std.proofs.Common.{sym, ◌∙◌, arith}
 use Rattle.checker.proofs.Turns.{no_line, no_room, start, turn}
 use Rattle.checker.proofs.checker.Checker.run.Goals as goal
-use Rattle.checker.specs.Meaning.{held}
 use Rattle.checker.specs.Runs.{after_lines, texts}
 
 pub loop-next-init : goal.loop-next-init

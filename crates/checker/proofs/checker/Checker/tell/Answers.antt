@@ -1,6 +1,5 @@
 use Rattle.std.proofs.Common.{sym, ap}
 use Rattle.page.specs.Answers.{row}
-use Rattle.page.specs.declared.answer.Answer.{Answer}
 use Rattle.checker.proofs.Histories.{command_kept, reached, refusal_kept}
 use Rattle.checker.proofs.checker.Checker.tell.Goals as goal
 use Rattle.checker.specs.Meaning.{held}

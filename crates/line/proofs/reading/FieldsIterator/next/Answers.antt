@@ -1,4 +1,4 @@
-use Rattle.std.proofs.Common.{length, sym, refl, ap, ◌∙◌, arith, rules}
+use Rattle.std.proofs.Common.{length, sym, ap, arith, rules}
 use Rattle.line.specs.Fields.{first_field, later_fields, later_place}
 use Rattle.line.proofs.Cuts.{left_comma, left_last}
 use Rattle.line.proofs.reading.FieldsIterator.next.Goals as goal

@@ -1,4 +1,4 @@
-use Rattle.std.proofs.Common.{None, Option, refl, ap}
+use Rattle.std.proofs.Common.{None, Option, refl}
 use Rattle.std.specs.Option.{option_map}
 use Rattle.methods.proofs.Labels.{blank_at, blank_small}
 use Rattle.methods.proofs.entries.Entries.new.Goals as goal

@@ -1,4 +1,3 @@
-use Rattle.std.proofs.Common.{arith}
 use Rattle.fixed.specs.Items.{items}
 use Rattle.methods.proofs.Steps.{step_there}
 use Rattle.methods.proofs.method.Method.has_step.Goals as goal

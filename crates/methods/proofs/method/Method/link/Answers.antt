@@ -1,4 +1,4 @@
-use Rattle.std.proofs.Common.{◌≡◌, ◌&&◌, sym, ap, ◌∙◌, ap₂}
+use Rattle.std.proofs.Common.{◌&&◌, sym, ap, ◌∙◌, ap₂}
 use Rattle.page.specs.Answers.{row}
 use Rattle.semantics.specs.Causes.{told}
 use Rattle.semantics.specs.Methods as meant

@@ -1,6 +1,6 @@
 use Rattle.std.proofs.Common.{◌≡◌, ℕ, ◌<◌, false, sym, subst, arith}
 use mathlib.Core.Logic.{∥∥₁_map}
-use Rattle.semantics.specs.Orders.{Holds, put, Relation, Strict}
+use Rattle.semantics.specs.Orders.{Holds, Relation, Strict}
 use Rattle.semantics.proofs.Orders.{put_strict}
 use Rattle.methods.proofs.Growing.{put_is, put_within, Within}
 use Rattle.methods.proofs.small_order.SmallOrder.put.Goals as goal

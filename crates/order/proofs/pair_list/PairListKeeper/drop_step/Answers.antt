@@ -1,5 +1,5 @@
 use Rattle.std.proofs.Common.{take, ap, ◌∙◌}
-use Rattle.order.specs.Stored.{closure, others, put_some, through}
+use Rattle.order.specs.Stored.{others, put_some, through}
 use Rattle.order.proofs.Drops.{dropped_list}
 use Rattle.order.specs.Lists.{stored_from}
 use Rattle.order.proofs.pair_list.PairListKeeper.drop_step.Goals as goal

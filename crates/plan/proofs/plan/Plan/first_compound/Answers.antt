@@ -1,4 +1,4 @@
-use Rattle.std.proofs.Common.{◌≡◌, sym, ◌∙◌, arith}
+use Rattle.std.proofs.Common.{sym, arith}
 use Rattle.domain.specs.Meaning.{tasks}
 use Rattle.fixed.specs.Items.{items}
 use Rattle.semantics.specs.Causes.{first_such}

@@ -1,4 +1,3 @@
-use Rattle.std.proofs.Common.{arith}
 use Rattle.fixed.specs.Items.{items}
 use Rattle.plan.proofs.Ups.{unlinked_here, unlinked_on, unlinked_end}
 use Rattle.plan.proofs.plan.Plan.first_unlinked.Goals as goal

@@ -1,6 +1,6 @@
-use Rattle.std.proofs.Common.{◌≡◌, ℕ, ◌<◌, ◌≤◌, length, sym, arith, rules}
+use Rattle.std.proofs.Common.{◌≡◌, ℕ, ◌<◌, ◌≤◌, length, arith, rules}
 use Rattle.fixed.specs.Items.{items}
-use Rattle.semantics.specs.Orders.{Holds, put, Strict}
+use Rattle.semantics.specs.Orders.{Holds, Strict}
 use Rattle.plan.proofs.Puts.{after_init, before_goal}
 use Rattle.plan.proofs.plan.Plan.new_step.Goals as goal
 

@@ -1,6 +1,5 @@
-use Rattle.std.proofs.Common.{◌≡◌, ℕ, ◌<◌, ltb, length, sym, refl, subst, arith}
+use Rattle.std.proofs.Common.{◌≡◌, ◌<◌, length, sym, refl, subst, arith}
 use Rattle.std.proofs.lemmas.List.{length-map}
-use Rattle.std.specs.List.{slice_get}
 use Rattle.fixed.specs.Items.{items}
 use Rattle.semantics.specs.Causes.{first_of}
 use Rattle.semantics.specs.Drafts.{Draft}

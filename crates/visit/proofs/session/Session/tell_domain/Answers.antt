@@ -1,4 +1,4 @@
-use Rattle.std.proofs.Common.{◌≡◌, sym, ap, ◌∙◌}
+use Rattle.std.proofs.Common.{sym, ap, ◌∙◌}
 use Rattle.line.specs.declared.command.Command.{Command}
 use Rattle.page.specs.Answers.{row}
 use Rattle.semantics.specs.Causes.{told}
