@@ -1,11 +1,9 @@
 -- Entries by label.
-use Rattle.std.proofs.Common.{◌≡◌, ℕ, zero, suc, ◌+◌, ◌<◌, Bool, true, false, cond, eqb, List, length, get_or, set, replicate, is_some as option_is_some, Some, None, Option, sym, refl, ap, ◌∙◌, subst, ⊎_elim, arith, lit<, get_or-set_other, get_or-set_same}
+use Rattle.std.proofs.Common.{◌≡◌, ℕ, zero, suc, ◌+◌, ◌<◌, Bool, true, false, cond, eqb, List, length, get_or, set, replicate, is_some as option_is_some, Some, None, Option, sym, refl, ap, ◌∙◌, ⊎_elim, arith, get_or-set_other, get_or-set_same}
 use Rattle.std.proofs.lemmas.Bool.{cases_eq, cond-false, cond-true, eq-eqb, ne_eqb}
 use Rattle.std.specs.Option.{option_map}
 use Rattle.semantics.specs.Causes.{first_such, is_some}
 use Rattle.semantics.specs.Decomposing.{upfrom}
-use Rattle.methods.specs.Routes.{entry_step}
-use Rattle.methods.specs.declared.entries.Entry.{Entry}
 
 pub blank_at : {X : Type 0} (n : ℕ) (x : X) (i : ℕ) → get_or (replicate n x) i x ≡ x
 blank_at zero x i = refl
@@ -17,18 +15,6 @@ set_at xs k x d i l = ⊎_elim
     (λ (e : i ≡ k). ap (λ j. get_or (set xs k x) j d) e ∙ get_or-set_same xs k x d l ∙ sym (cond-true (eqb i k) _ _ (eq-eqb i k e)))
     (λ n. get_or-set_other xs k i x d n ∙ sym (cond-false (eqb i k) _ _ (ne_eqb i k n)))
     (cases_eq i k)
-
--- the steps of entries stay small
-pub blank_small : (n j : ℕ) → entry_step (get_or (replicate n None) j None) < 8
-blank_small n j = subst (λ (o : Option Entry). entry_step o < 8) (sym (blank_at {X = Option Entry} n None j)) (lit< tt)
-
-pub set_small : (xs : List (Option Entry)) (k : ℕ) (e : Entry) → k < length xs → e.step < 8 → ((j : ℕ) → entry_step (get_or xs j None) < 8)
-    → (j : ℕ) → entry_step (get_or (set xs k (Some e)) j None) < 8
-set_small xs k e l h old j = subst (λ (o : Option Entry). entry_step o < 8) (sym (set_at xs k (Some e) None j l)) (at (eqb j k))
-  where
-    at : (b : Bool) → entry_step (cond b (Some e) (get_or xs j None)) < 8
-    at true = h
-    at false = old j
 
 pub mapped_cond : {X Y : Type 0} (h : X → Y) (b : Bool) (x : X) (o : Option X) → option_map h (cond b (Some x) o) ≡ cond b (Some (h x)) (option_map h o)
 mapped_cond h true x o = refl

@@ -2,4 +2,5 @@ pub mod Growing
 pub mod Labels
 pub mod Ends
 pub mod Steps
+pub mod SmallSteps
 pub mod Parts

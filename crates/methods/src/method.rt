@@ -1,12 +1,14 @@
 ghost use Rattle.fixed.specs.Items.{items};
 ghost use Rattle.methods.specs.Ends.{SmallEnds};
+ghost use Rattle.methods.specs.Places.{going};
+ghost use Rattle.methods.specs.Routes.{SmallSteps};
 
 use crate::{Entries, SmallOrder};
 use fixed::Fixed;
 use semantics::Link;
 
 /// A method: its task, the tasks of its steps, its links, its own order, and where each need and each add of its task
-/// goes. Both ends of each link are numbers below 8.
+/// goes. Both ends of each link are numbers below 8, and each entry names a step below 8.
 #[derive(Clone, Copy)]
 pub struct Method {
     pub(super) task: u8,
@@ -16,4 +18,6 @@ pub struct Method {
     pub(super) needs: Entries,
     pub(super) adds: Entries,
     ghost ends: { SmallEnds (items links) },
+    ghost needs_within: { SmallSteps (going needs) },
+    ghost adds_within: { SmallSteps (going adds) },
 }

@@ -5,7 +5,6 @@ ghost use Rattle.semantics.specs.Causes.{first_such, is_some};
 ghost use Rattle.semantics.specs.Decomposing.{upfrom};
 ghost use Rattle.semantics.specs.Methods.{entered};
 ghost use Rattle.methods.specs.Places.{going, place};
-ghost use Rattle.methods.specs.Routes.{entry_step};
 
 use crate::{Entries, Entry};
 
@@ -22,8 +21,7 @@ impl Entries {
 
     /// Where a label goes.
     pub fn get(&self, label: u8) -> Option<Entry>
-        ensures item { option_map place result ≡ going self.now label }
-        ensures small { entry_step result < 8 }
+        ensures { option_map place result ≡ going self.now label }
     {
         if label >= LABELS {
             return None;
@@ -40,7 +38,7 @@ impl Entries {
 
     /// Gives a label its entry.
     pub(super) fn put(&mut self, label: u8, entry: Entry)
-        requires { (label < 32) × (entry.step < 8) }
+        requires { label < 32 }
         ensures { going self.new ≡ entered (going self.old) label (entry.step, entry.label) }
     {
         self.places[label as usize] = Some(entry);

@@ -1,6 +1,6 @@
 -- What holds of the lines of every text.
 use Rattle.std.proofs.Common.{◌≡◌, ℕ, ◌<◌, Bool, true, false, ◌&&◌, eqb, List, [], ◌∷◌, ◌++◌, length, sym, refl, ap, ◌∙◌, subst, inl, inr, ⊎_elim, arith}
-use Rattle.std.specs.List.{AllByRecursion as All}
+use Rattle.std.specs.List.{AllByRecursion}
 use Rattle.std.proofs.lemmas.Bool.{eqb-true, eqb-false, eq-eqb, ne_eqb, cond-true, cond-false, cases_Bool, and_left, and_right, and_parts, and_from, false≢true, both_ways}
 use Rattle.page.proofs.Cuts.{part}
 use Rattle.page.specs.Lines.{Broken, on_first, cr_first, starts_lf, broken, ends_cr, Breaks, Plain, WholeBreaks, put_together, LinesOfAText}
@@ -112,14 +112,14 @@ kept_cr =
     }
 
 -- the bytes of a line, before its break
-front : (l e rest : List ℕ) (ps : List Broken) → All (λ b. b ≡ 10 → ⊥) l → (starts_lf (e ++ rest) ≡ true → ends_cr l ≡ false) → broken (e ++ rest) ≡ ([], e) ∷ ps → broken ((l ++ e) ++ rest) ≡ (l, e) ∷ ps
+front : (l e rest : List ℕ) (ps : List Broken) → AllByRecursion (λ b. b ≡ 10 → ⊥) l → (starts_lf (e ++ rest) ≡ true → ends_cr l ≡ false) → broken (e ++ rest) ≡ ([], e) ∷ ps → broken ((l ++ e) ++ rest) ≡ (l, e) ∷ ps
 front [] e rest ps n m h = h
 front (b ∷ []) e rest ps n m h =
     part b (e ++ rest) n.0 (⊎_elim (λ t. and_left _ _ (m t)) (and_right _ _) (cases_Bool (starts_lf (e ++ rest)))) ∙ ap (on_first b) h
 front (b ∷ x ∷ l) e rest ps n m h = part b (((x ∷ l) ++ e) ++ rest) n.0 (and_right _ _ (ne_eqb x 10 n.1.0)) ∙ ap (on_first b) (front (x ∷ l) e rest ps n.1 m h)
 
 -- the bytes of a last line that has no break
-front_last : (l : List ℕ) → 0 < length l → All (λ b. b ≡ 10 → ⊥) l → broken ((l ++ []) ++ []) ≡ (l, []) ∷ []
+front_last : (l : List ℕ) → 0 < length l → AllByRecursion (λ b. b ≡ 10 → ⊥) l → broken ((l ++ []) ++ []) ≡ (l, []) ∷ []
 front_last [] z n = absurd (omega arith)
 front_last (b ∷ []) z n = part b [] n.0 (and_right _ _ refl)
 front_last (b ∷ x ∷ l) z n = part b (((x ∷ l) ++ []) ++ []) n.0 (and_right _ _ (ne_eqb x 10 n.1.0)) ∙ ap (on_first b) (front_last (x ∷ l) (omega arith) n.1)

@@ -1,6 +1,6 @@
 -- The lines of a text, each with the break that ends it.
 use Rattle.std.specs.Prelude.{◌≡◌, ℕ, ◌+◌, ◌<◌, Bool, false, cond, ◌&&◌, ◌⊎◌, List, [], ◌∷◌, ◌++◌, map, length, Some, None, Option, ◌==◌, ◌≢◌}
-use Rattle.std.specs.List.{flat_map, AllByRecursion as All}
+use Rattle.std.specs.List.{flat_map, AllByRecursion}
 
 -- a line, and the break after it
 abbrev pub Broken : Type 0
@@ -49,11 +49,11 @@ Breaks ((l, e) ∷ rest) = ((e ≡ 10 ∷ []) ⊎ ((e ≡ 13 ∷ 10 ∷ []) ⊎ 
 
 -- no line holds an LF
 abbrev pub Plain : List Broken → Type 0
-Plain ps = All (λ p. All (λ b. b ≢ 10) p.0) ps
+Plain ps = AllByRecursion (λ p. AllByRecursion (λ b. b ≢ 10) p.0) ps
 
 -- a line whose break is LF alone does not end in CR: that CR would belong to the break
 abbrev pub WholeBreaks : List Broken → Type 0
-WholeBreaks ps = All (λ p. p.1 ≡ 10 ∷ [] → ends_cr p.0 ≡ false) ps
+WholeBreaks ps = AllByRecursion (λ p. p.1 ≡ 10 ∷ [] → ends_cr p.0 ≡ false) ps
 
 -- all lines and breaks put together again, in their order
 abbrev pub put_together : List Broken → List ℕ

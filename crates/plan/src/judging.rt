@@ -5,7 +5,9 @@ ghost use Rattle.fixed.specs.Items.{items};
 ghost use Rattle.page.specs.Answers.{row};
 ghost use Rattle.semantics.specs.Causes.{first_found, first_of, first_such};
 ghost use Rattle.semantics.specs.PlanLines.{judge_causes, lower, lowest_link, threatens};
-ghost use Rattle.semantics.specs.Plans.{present_from, steps_of};
+ghost use Rattle.semantics.specs.Plans.{at_task, present_from, steps_of};
+ghost use Rattle.semantics.specs.Tasks.{adds_of};
+ghost use Rattle.std.specs.List.{slice_get};
 ghost use Rattle.plan.specs.Meaning.{plan};
 ghost use Rattle.plan.specs.Turns.{at_step, compound, is_compound, nearer_threatened, paired, threatened, unlinked, unlinked_of};
 
@@ -72,11 +74,18 @@ impl Plan {
         None
     }
 
+    /// The fact that a link protects, by its producer.
+    pub(super) fn fact_of(&self, known: &Tasks, link: Link) -> Option<u8>
+        ensures { result ≡ slice_get (adds_of (at_task (tasks known.now) (slice_get (items self.now.steps) link.producer))) link.add }
+    {
+        self.task(known, link.producer)?.add(link.add)
+    }
+
     /// Whether step `s` threatens the link.
     fn is_threat<K: Keeper>(&self, keeper: &K, known: &Tasks, s: u8, link: Link) -> bool
         ensures { result ≡ threatens (tasks known.now) (plan (K.before keeper.now) self.now) s link }
     {
-        let Some(fact) = self.fact_given(known, link) else {
+        let Some(fact) = self.fact_of(known, link) else {
             return false;
         };
         let Some(task) = self.task(known, s) else {

@@ -61,13 +61,6 @@ impl Plan {
         found
     }
 
-    /// The fact that a link gives, by its producer.
-    pub(super) fn fact_given(&self, known: &Tasks, link: Link) -> Option<u8>
-        ensures { result ≡ slice_get (adds_of (at_task (tasks known.now) (slice_get (items self.now.steps) link.producer))) link.add }
-    {
-        self.task(known, link.producer)?.add(link.add)
-    }
-
     /// The fact that a link is wanted for, by its consumer.
     fn fact_wanted(&self, known: &Tasks, link: Link) -> Option<u8>
         ensures { result ≡ slice_get (needs_of (at_task (tasks known.now) (slice_get (items self.now.steps) link.consumer))) link.need }
@@ -91,7 +84,7 @@ impl Plan {
     {
         bad_ends(
             self.is_step(l.producer),
-            self.fact_given(known, l),
+            self.fact_of(known, l),
             self.is_step(l.consumer),
             self.fact_wanted(known, l),
         )

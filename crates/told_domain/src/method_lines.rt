@@ -9,6 +9,7 @@ ghost use Rattle.semantics.specs.declared.phase.Phase.TheVariants as at;
 ghost use Rattle.told_domain.specs.Domains.{in_phase, parts, with_draft, with_methods};
 
 use crate::Domain;
+use crate::opening::is_accepted;
 use methods::Method;
 use page::Answer;
 use semantics::{Link, Phase};
@@ -112,7 +113,7 @@ impl Domain {
             return Answer::WrongPhase;
         }
         let answer = self.draft.close(&self.known);
-        if answer.is_accepted() {
+        if is_accepted(answer) {
             let _ = self.list.push(self.draft);
             self.phase = Phase::Methods;
         }

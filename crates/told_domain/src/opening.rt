@@ -1,5 +1,6 @@
 //! A domain before its first line, and whether a line is of its phase.
-ghost use Rattle.std.specs.Prelude.{◌≡◌, false, not, [], ◌∷◌};
+ghost use Rattle.std.specs.Prelude.{◌≡◌, false, not, [], ◌∷◌, ◌==◌};
+ghost use Rattle.page.specs.Answers.{row};
 ghost use Rattle.semantics.specs.Methods.{blank};
 ghost use Rattle.semantics.specs.Rules.{one_of};
 ghost use Rattle.semantics.specs.Tasks.{first_tasks};
@@ -10,6 +11,7 @@ use crate::Domain;
 use domain::Tasks;
 use fixed::Fixed;
 use methods::Method;
+use page::Answer;
 use semantics::Phase;
 
 impl Domain {
@@ -32,5 +34,15 @@ impl Domain {
         ensures same { result ≡ false → self.now.phase ≡ phase }
     {
         self.phase as u8 != phase as u8
+    }
+}
+
+/// Whether a line is accepted.
+pub fn is_accepted(answer: Answer) -> bool
+    ensures { result ≡ ((row answer).code == 0) }
+{
+    match answer {
+        Answer::Accepted { .. } => true,
+        _ => false,
     }
 }

@@ -1,4 +1,4 @@
-use Rattle.std.proofs.Common.{None, sym, refl, ap, arith, lit<}
+use Rattle.std.proofs.Common.{None, sym, refl, ap, arith}
 use Rattle.std.proofs.lemmas.List.{get_or_past}
 use Rattle.std.specs.Option.{option_map}
 use Rattle.methods.proofs.entries.Entries.get.Goals as goal
@@ -8,8 +8,8 @@ pub returns-then-label-ge-LABELS : goal.returns-then-label-ge-LABELS
 unfolding going
 returns-then-label-ge-LABELS c =
     let self = c.args.self.now in
-    record { item = sym (ap (option_map place) (get_or_past self.places c.args.label None (omega (arith, self.whole)))); small = lit< tt }
+    sym (ap (option_map place) (get_or_past self.places c.args.label None (omega (arith, self.whole))))
 
 pub returns : goal.returns
 unfolding going
-returns c = record { item = refl; small = c.args.self.now.small c.args.label }
+returns c = refl

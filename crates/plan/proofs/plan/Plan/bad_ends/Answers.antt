@@ -13,4 +13,4 @@ returns c =
     let l = c.args.l in
     let add = nth_there (adds_of (at_task ts (slice_get ss l.producer))) l.add in
     let goal = nth_there (needs_of (at_task ts (slice_get ss l.consumer))) l.need in
-    cc (c.bad_ends.ensures, c.is_step.ensures, c.is_step-2.ensures, c.fact_given.ensures, c.fact_wanted.ensures)
+    cc (c.bad_ends.ensures, c.is_step.ensures, c.is_step-2.ensures, c.fact_of.ensures, c.fact_wanted.ensures)
