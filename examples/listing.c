@@ -1,9 +1,9 @@
 /*
  * A terminal in C: runs a whole truck's visit through the checker and compares the rows with those that the rules give.
  *
- *     cc -Iinclude examples/listing.c target/staticlib/libterminal.a KIT/lib/librattle_c.a -o listing && ./listing
+ *     cc -Iinclude examples/listing.c crates/terminal/out/libterminal.a -o listing && ./listing
  *
- * KIT is the folder of the Rattle toolchain. Exits with 0 only if every row is as expected.
+ * `rt lib` in crates/terminal makes the library. Exits with 0 only if every row is as expected.
  */
 #include <stdio.h>
 #include <string.h>

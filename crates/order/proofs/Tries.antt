@@ -16,7 +16,7 @@ use Rattle.semantics.specs.Orders.{put, Relation}
 low_can : (n : ℕ) (R : Relation) (a b : ℕ) → a < n → b < n → can_put n R a b ≡ not (eqb a b || R b a)
 low_can n R a b la lb = grind (arith, nat_tests)
 
--- Below the capacity, pairs put until one is refused are the pairs that `try-all` puts.
+-- Below the capacity, pairs put until one is refused are the pairs that `try_all` puts.
 pub each_tries : (n : ℕ) (R : Relation) (ps : List (ℕ × ℕ)) → Low n ps
     → cond (put_each n R ps).0 (Some (put_each n R ps).1) None ≡ try_all (Some R) ps
 each_tries n R [] l = refl
@@ -31,7 +31,7 @@ each_tries n R (p ∷ ps) l = by (eqb p.0 p.1 || R p.1 p.0) (can_put n R p.0 p.1
     by false true e ih = ih
     by false false e ih = grind arith
 
--- what `put_all` promises of try-all
+-- what `put_all` promises of try_all
 pub all_tries : (n : ℕ) (R S : Relation) (ok : Bool) (ps : List (ℕ × ℕ)) → (ok, S) ≡ put_each n R ps → Low n ps → cond ok (Some S) None ≡ try_all (Some R) ps
 all_tries n R S ok ps e l = ap (λ (q : Bool × Relation). cond q.0 (Some q.1) None) e ∙ each_tries n R ps l
 
