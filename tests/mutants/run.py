@@ -5,7 +5,7 @@
 
 Each mutant changes one place of the body of a function and keeps its names: a relation turned, a constant off by one, `|` for `&`, a
 statement dropped, two arguments swapped, a condition negated, another field read. It is made in a copy of the repository, where
-`rt dev` checks the crate. What comes of it is one of
+`rt check` checks the crate. What comes of it is one of
 
     proved   the mutant meets the contracts still: it must be shown to do the same, or a contract is too weak
     fact     refused since a fact fails: a need of the function is open, or a written proof shows something else
@@ -84,7 +84,7 @@ def candidates(root, crate):
 
 def verdict(scratch, crate):
     """What the prover says of the crate as it stands in the copy."""
-    run = subprocess.run(['rt', 'dev', crate], cwd=scratch, capture_output=True, text=True)
+    run = subprocess.run(['rt', 'check'], cwd=os.path.join(scratch, 'crates', crate), capture_output=True, text=True)
     out = run.stdout + run.stderr
     if run.returncode == 0 and 'logic=proved' in out:
         return 'proved', ''
@@ -128,8 +128,7 @@ def main():
     if not os.path.isdir(args.scratch):
         os.makedirs(args.scratch)
         shutil.copy(os.path.join(root, 'crates.txt'), args.scratch)
-        for part in ('crates', 'target'):
-            shutil.copytree(os.path.join(root, part), os.path.join(args.scratch, part), symlinks=True)
+        shutil.copytree(os.path.join(root, 'crates'), os.path.join(args.scratch, 'crates'), ignore=shutil.ignore_patterns('out'))
     counts = {}
     print('| Crate | Place | Change | Before | After | Outcome | First sign |\n|---|---|---|---|---|---|---|')
     for crate in args.crates.split(','):

@@ -1,4 +1,4 @@
-//! What the links of a method and of a plan share: whether a link may join, and how it joins.
+//! Lists of links: whether a link may join one, and how it joins.
 //!
 //! Nothing here allocates, and no public function asks anything of its caller.
 #![tactic(auto)]
