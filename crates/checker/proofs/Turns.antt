@@ -43,11 +43,11 @@ module _ (capacity : ℕ) where
       → MatchOption place (length page < at + 28) (λ e. (e ≤ at + 28) × (e ≤ length page))
       → end ≡ unwrap_or place at
       → AnsweredOn capacity past line page at end new after
-  answered_on past line page at w place end new after room kept page-is place_is within end_is =
+  answered_on past line page at w place end new after room kept page_is place_is within end_is =
       let some : place ≡ Some (at + length (row_text w)) = place_is ∙ ap (λ (b : Bool). cond b (Some (at + length (row_text w))) None) room in
       let few : at + length (row_text w) ≤ at + 28 = (subst (λ (o : Option ℕ). MatchOption o (length page < at + 28) (λ e. (e ≤ at + 28) × (e ≤ length page))) some within).0 in
       let same = kept.answers in record {
-        row = page-is ∙ ap (λ (b : Bool). cond b (written page at (row_text w)) page) room ∙ ap (λ (v : Row). written page at (row_text v)) same;
+        row = page_is ∙ ap (λ (b : Bool). cond b (written page at (row_text w)) page) room ∙ ap (λ (v : Row). written page at (row_text v)) same;
         place = end_is ∙ ap (λ (o : Option ℕ). unwrap_or o at) some ∙ ap (λ (v : Row). at + length (row_text v)) same;
         short = subst (λ (v : Row). length (row_text v) ≤ 28) same (omega arith);
         means = kept.means;

@@ -61,12 +61,12 @@ module _ (n : ℕ) (ts : List Task) (ms : List Method) (p : Plan) (s k number t 
   no_method e =
       sym (λ i. verdict (step_there i) (method_missing ms k (sym e) i) (other_task (slice_get p.steps s) (slice_get ms k)) (too_many n p s (slice_get ms k)) (circular ts p s (slice_get ms k)) number)
 
-  module _ (m : Method) (is-method : Some m ≡ slice_get ms k) where
+  module _ (m : Method) (is_method : Some m ≡ slice_get ms k) where
     method_is : ltb k (length ms) ≡ true
-    method_is = method_there ms k m (sym is-method)
+    method_is = method_there ms k m (sym is_method)
 
     other : (b : Bool) → eqb t m.task ≡ b → other_task (slice_get p.steps s) (slice_get ms k) ≡ not b
-    other b e = (λ i. other_task (standing (slice_get p.steps s) t is_step i) (sym is-method i)) ∙ ap not e
+    other b e = (λ i. other_task (standing (slice_get p.steps s) t is_step i) (sym is_method i)) ∙ ap not e
 
     pub wrong_kind : (t ≡ m.task → ⊥) → as_row 7 0 0 0 ≡ first_of (decompose_causes n ts ms p s k) number
     wrong_kind e =
@@ -76,7 +76,7 @@ module _ (n : ℕ) (ts : List Task) (ms : List Method) (p : Plan) (s k number t 
       asked : (many circle : Bool) → too_many n p s (Some m) ≡ many → circular ts p s (Some m) ≡ circle → verdict true true false many circle number ≡ first_of (decompose_causes n ts ms p s k) number
       asked many circle e f =
           sym (λ i. verdict (step_there i) (method_is i) (other true (eq-eqb t m.task same) i)
-          ((ap (too_many n p s) (sym is-method) ∙ e) i) ((ap (circular ts p s) (sym is-method) ∙ f) i) number)
+          ((ap (too_many n p s) (sym is_method) ∙ e) i) ((ap (circular ts p s) (sym is_method) ∙ f) i) number)
 
       pub limit_passed : too_many n p s (Some m) ≡ true → as_row 10 0 0 0 ≡ first_of (decompose_causes n ts ms p s k) number
       limit_passed e = asked true (circular ts p s (Some m)) e refl

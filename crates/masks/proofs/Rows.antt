@@ -32,8 +32,8 @@ module _ (f : ℕ → ℕ → ℕ) (old : List ℕ) where
 
   pub mapped_more : (new : List ℕ) (i v : ℕ) → i < length new → Mapped f old new i → v ≡ f i (get_or new i 0) → Mapped f old (set new i v) (i + 1)
   mapped_more new i v l m e =
-      let v-is : v ≡ f i (get_or old i 0) = subst (λ (x : ℕ). v ≡ f i x) (mapped_here new i m) e in
-      (length-set new i v ∙ m.0, λ k. more_at new i v k l m v-is (cases_order k i))
+      let v_is : v ≡ f i (get_or old i 0) = subst (λ (x : ℕ). v ≡ f i x) (mapped_here new i m) e in
+      (length-set new i v ∙ m.0, λ k. more_at new i v k l m v_is (cases_order k i))
 
   pub mapped_below : (new : List ℕ) (n : ℕ) → Mapped f old new n → (k : ℕ) → k < n → get_or new k 0 ≡ f k (get_or old k 0)
   mapped_below new n m k l = m.1 k ∙ cond-true (ltb k n) _ _ (lt-ltb k n l)

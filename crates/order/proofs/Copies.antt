@@ -38,10 +38,10 @@ module _ (n : ℕ) (R : Relation) (o : Order n R) where
     last x y l h = ⊎_elim inl (λ e. inr (e.0 ∙ sym a-is, e.1 ∙ sym b-is)) (place_is n x y i l h)
 
     pub partly_skip : (S : Relation) → Partly n R S i → R a b ≡ false → Partly n R S (i + 1)
-    partly_skip S p no-pair = record {
+    partly_skip S p no_pair = record {
       sub = p.sub;
       covers = λ x y l h k. ⊎_elim (λ m. p.covers x y l m k)
-          (λ e. absurd (both_ways (R a b) no-pair (subst (λ (u : ℕ). Holds R u b) e.0 (subst (λ (v : ℕ). Holds R x v) e.1 k)))) (last x y l h);
+          (λ e. absurd (both_ways (R a b) no_pair (subst (λ (u : ℕ). Holds R u b) e.0 (subst (λ (v : ℕ). Holds R x v) e.1 k)))) (last x y l h);
     }
 
     pub partly_put : (S T : Relation) (ok : Bool) → Order n S → Partly n R S i → Holds R a b

@@ -77,13 +77,13 @@ pub record Grown (D S : Relation) (ps : List (ℕ × ℕ)) (T : Relation) : Type
 -- pairs of an order, put where no more than that order is kept
 grown_all : (n : ℕ) (D : Relation) → Order n D → (ps : List (ℕ × ℕ)) (S : Relation) → ((x y : ℕ) → Holds S x y → Holds D x y) → Transitive S
     → ((x y : ℕ) → Listed x y ps → Holds D x y) → Grown D S ps (put_some n S ps)
-grown_all n D o [] S sub tr in-d = record { sub = sub; passes_on = tr; keeps = λ x y h. h; has = λ x y h. absurd h }
-grown_all n D o (p ∷ ps) S sub tr in-d =
+grown_all n D o [] S sub tr in_d = record { sub = sub; passes_on = tr; keeps = λ x y h. h; has = λ x y h. absurd h }
+grown_all n D o (p ∷ ps) S sub tr in_d =
     let a = p.0 in
     let b = p.1 in
-    let here = in-d a b (inl (refl, refl)) in
+    let here = in_d a b (inl (refl, refl)) in
     let m = put_smallest S a b tr in
-    let ih = grown_all n D o ps (put S a b) (m.no_more D sub here o.strict.passes_on) m.passes_on (λ x y l. in-d x y (inr l)) in
+    let ih = grown_all n D o ps (put S a b) (m.no_more D sub here o.strict.passes_on) m.passes_on (λ x y l. in_d x y (inr l)) in
     let taken : put_or_not n S a b ≡ put S a b = cond-true (can_put n S a b) (put S a b) S (free_put n S a b (free_within n D S a b o sub here)) in
     subst (λ (Q : Relation). Grown D S (p ∷ ps) (put_some n Q ps)) (sym taken) record {
       sub = ih.sub;
@@ -222,11 +222,11 @@ module _ (n : ℕ) (ps : List (ℕ × ℕ)) (o : Order n (closure ps)) (a : ℕ)
   unfolding Into OutOf
   no_circle y k i =
       let tr = o.strict.passes_on in
-      let to-y : Holds (closure ps) a y =
+      let to_y : Holds (closure ps) a y =
       ⊎_elim (λ e. subst (λ (u : ℕ). Holds (closure ps) a u) e (closure_has ps a k.0 k.1)) (λ h. tr a k.0 y (closure_has ps a k.0 k.1) (was k.0 y h)) k.2 in
       let from-y : Holds (closure ps) y a =
       ⊎_elim (λ e. subst (λ (u : ℕ). Holds (closure ps) u a) (sym e) (closure_has ps i.0 a i.1)) (λ h. tr y i.0 a (was y i.0 h) (closure_has ps i.0 a i.1)) i.2 in
-      o.strict.never_itself a (tr a y a to-y from-y)
+      o.strict.never_itself a (tr a y a to_y from-y)
 
   way_on : (x y z : ℕ) → Way x y → Way y z → Way x z
   unfolding Way

@@ -43,12 +43,12 @@ reaching_none ps a = record {
 
 module _ (ps : List (ℕ × ℕ)) (a seen followed : ℕ) (r : Reaching ps a seen followed) where
   -- the step x is followed
-  module _ (x m : ℕ) (in-seen : bit seen x ≡ true) (is : (y : ℕ) → bit m y ≡ leads ps x y) where
+  module _ (x m : ℕ) (in_seen : bit seen x ≡ true) (is : (y : ℕ) → bit m y ≡ leads ps x y) where
     after_x : (y : ℕ) → Listed x y ps → Holds (closure ps) a y
     after_x y l = ⊎_elim
         (λ e. subst (λ (k : ℕ). Holds (closure ps) k y) (sym (eqb-true a x e)) (closure_has ps x y l))
         (λ h. closure_transitive ps a x y h (closure_has ps x y l))
-        (or_cases (eqb a x) (closure ps a x) (r.sound x in-seen))
+        (or_cases (eqb a x) (closure ps a x) (r.sound x in_seen))
 
     old : (y : ℕ) → bit seen y ≡ true → bit (bit_or seen m) y ≡ true
     old y h = bit-or seen m y ∙ or_left (bit seen y) (bit m y) h

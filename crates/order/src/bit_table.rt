@@ -4,7 +4,7 @@ ghost use Rattle.masks.specs.Rows.{grown};
 ghost use Rattle.order.specs.Marks.{marks, pruned};
 ghost use Rattle.order.specs.Puts.{can_put, Order};
 ghost use Rattle.order.specs.Ordered.{order_from};
-ghost use Rattle.std.proofs.Common.{rules, arith};
+ghost use Rattle.std.proofs.Common.{lit≤};
 
 use crate::keeper::{Keeper, Refused};
 use masks::{marked, only};
@@ -87,7 +87,7 @@ impl Keeper for BitTable {
 
     ghost before = { λ k. marks k.rows };
 
-    ghost few = { first_of (Prim.search rules, Prim.grind (arith, Self.row.coded.inj)) };
+    ghost few = { (lit≤ tt, lit≤ tt) };
 
     ghost never_itself = { λ k. (order_from 64 (marks k.rows) k.ok).strict.never_itself };
 

@@ -12,7 +12,7 @@ pub trait Keeper: Sized + Drop {
     /// How many step numbers there are.
     const CAPACITY: u8;
 
-    // The capacity, for clauses, which cannot name the constant.
+    // The capacity, for clauses and laws.
     ghost capacity: { ℕ };
 
     // Which steps are before which.

@@ -4,7 +4,7 @@ ghost use Rattle.masks.specs.Bits.{bit};
 ghost use Rattle.order.specs.Puts.{can_put, nothing};
 ghost use Rattle.order.specs.Stored.{closure, leads, onward, others, put_or_not, put_some, Small, Stored, through};
 ghost use Rattle.order.specs.Lists.{stored_from};
-ghost use Rattle.std.proofs.Common.{rules, arith};
+ghost use Rattle.std.proofs.Common.{lit≤};
 
 use crate::keeper::{Keeper, Refused};
 use masks::{lowest, marked, only};
@@ -171,7 +171,7 @@ impl Keeper for PairList {
 
     ghost before = { λ k. closure (take k.count k.pairs) };
 
-    ghost few = { first_of (Prim.search rules, Prim.grind (arith, Self.row.coded.inj)) };
+    ghost few = { (lit≤ tt, lit≤ tt) };
 
     ghost never_itself = { λ k. (stored_from 32 (take k.count k.pairs) k.ok).order.strict.never_itself };
 

@@ -9,9 +9,9 @@ use Rattle.page.specs.declared.answer.Side.{Side}
 use Rattle.page.specs.declared.answer.Side.TheVariants.{Need, Add}
 
 -- the side of an entry, as a number
-abbrev pub side-number : Side → ℕ
-side-number Need = 0
-side-number Add = 1
+abbrev pub side_number : Side → ℕ
+side_number Need = 0
+side_number Add = 1
 
 -- four numbers as a row
 abbrev pub as_row : ℕ → ℕ → ℕ → ℕ → Row
@@ -31,7 +31,7 @@ row AlreadyGiven = as_row 8 0 0 0
 row FactsDiffer = as_row 9 0 0 0
 row LimitPassed = as_row 10 0 0 0
 row Circle = as_row 11 0 0 0
-row (EntryMissing side label) = as_row 12 (side-number side) label 0
+row (EntryMissing side label) = as_row 12 (side_number side) label 0
 row (StepWaiting step) = as_row 13 step 0 0
 row (CompoundStep step) = as_row 14 step 0 0
 row (OpenNeed step label) = as_row 15 step label 0

@@ -1,6 +1,6 @@
 //! Answers as rows, and rows on a page.
 ghost use Rattle.std.specs.Prelude.{◌≡◌, ◌+◌, ◌<◌, ◌≤◌, length, if◌then◌else◌, Some, None, decimal, MatchOption, ◌==◌};
-ghost use Rattle.page.specs.Answers.{as_row, row, side-number, unread};
+ghost use Rattle.page.specs.Answers.{as_row, row, side_number, unread};
 ghost use Rattle.page.specs.Rows.{fits, number_text, row_text, written};
 
 use crate::answer::{Answer, Row, Side};
@@ -89,7 +89,7 @@ impl From<Refusal> for Answer {
 impl Side {
     /// The number that stands for this side in a row.
     fn number(self) -> u8
-        ensures { result ≡ side-number self }
+        ensures { result ≡ side_number self }
     {
         match self {
             Side::Need => 0,

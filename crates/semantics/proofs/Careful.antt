@@ -366,14 +366,14 @@ named_threat capacity st law e =
     let z = lowest_some (threatens ts p x.0.0) p.links x.0.1 y.1 in
     let l : Link = x.0.1 in
     let fit = law.sound.links_fit l z.0 in
-    let is-a : x.0.0 ≡ (verdict capacity st Judge).a = sym (ap (λ (w : Row). w.a) r.1.2 ∙ x.2) in (
+    let is_a : x.0.0 ≡ (verdict capacity st Judge).a = sym (ap (λ (w : Row). w.a) r.1.2 ∙ x.2) in (
       all_primitive ts p r.0,
       (
         l,
         fit.0,
         z.0,
         fit.1,
-        subst (λ (s : ℕ). Threat ts p l fit.0 s) is-a (tested_threat ts p l fit.0 x.0.0 fit.1 z.1),
+        subst (λ (s : ℕ). Threat ts p l fit.0 s) is_a (tested_threat ts p l fit.0 x.0.0 fit.1 z.1),
         ap (λ (w : Row). w.b) r.1.2 ∙ x.3,
         ap (λ (w : Row). w.c) r.1.2 ∙ x.4,
       ),

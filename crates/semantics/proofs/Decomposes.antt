@@ -73,13 +73,13 @@ module _ (ts : List Task) (p : Plan) (s : ℕ) (m : Method) (sound : Sound ts p)
 
   pub gives : (q : Plan) → Fits ts m → slice_get p.steps s ≡ Some (Some m.task) → decompose_step ts p s m ≡ Some q → Decomposes ts p s m q
   unfolding all_links
-  gives q fits is-s e =
+  gives q fits is_s e =
       let r = order_as_book ts p sound (Holds p.before) self s m q e in
       let links : q.links ≡ with_links [] all_links = r.1 in
       let order : (x y : ℕ) → Holds q.before x y ↔ Chained (Inherits ts (Holds p.before) (length p.steps) s m q.steps q.links) x y =
       subst₂ (λ (ss : List (Option ℕ)) (ls : List Link). (x y : ℕ) → Holds q.before x y ↔ Chained (Inherits ts (Holds p.before) (length p.steps) s m ss ls) x y) (sym r.0) (sym r.1) r.3 in
       record {
-        sound = decomposed_sound ts p sound s m fits is-s q e;
+        sound = decomposed_sound ts p sound s m fits is_s q e;
         passed = λ l i. subst (Linked (passed_down (length p.steps) s m l)) (sym links)
             (withs_linked _ [] all_links (inr (linked_left _ _ _ (linked_map (passed_down (length p.steps) s m) l p.links i))));
         joined = λ l i. subst (Linked (renumbered (length p.steps) l)) (sym links)
@@ -101,7 +101,7 @@ module _ (ts : List Task) (p : Plan) (s : ℕ) (m : Method) (sound : Sound ts p)
 
 pub decomposition : Decomposition
 decomposition = record {
-  gives = λ ts p s m q sound fits is-s e. gives ts p s m sound q fits is-s e;
+  gives = λ ts p s m q sound fits is_s e. gives ts p s m sound q fits is_s e;
   arrives = arrives;
   refused = λ ts p s m sound. circle ts p s m sound (decompose_step ts p s m) refl;
 }

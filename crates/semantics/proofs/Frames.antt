@@ -58,7 +58,7 @@ below : (p : Plan) (x : ℕ) → In x (steps_of p) → x < length p.steps
 below p x i = let r = in_number p.steps 0 x i in let b = nth_below p.steps r.0 (Some r.1) r.3 in omega (arith, r.2)
 
 module _ (ts : List Task) (p : Plan) (s : ℕ) (m : Method) (q : Plan) (sound : Sound ts p) (fits : Fits ts m)
-    (is-s : slice_get p.steps s ≡ Some (Some m.task)) (e : decompose_step ts p s m ≡ Some q) where
+    (is_s : slice_get p.steps s ≡ Some (Some m.task)) (e : decompose_step ts p s m ≡ Some q) where
   steps_made : q.steps ≡ steps_after p s m
   steps_made = (order_as_book ts p sound (Holds p.before) (λ x y. (λ k. k, λ k. k)) s m q e).0
 
@@ -80,7 +80,7 @@ module _ (ts : List Task) (p : Plan) (s : ℕ) (m : Method) (q : Plan) (sound : 
       let o = nth_there gone x (omega arith) in
       let left = nth_left gone (map Some m.steps) x o.0 o.1 in
       let same : slice_get gone x ≡ Some (Some t) = cc o.1 in
-      let apart : x ≡ s → ⊥ = λ z. let k = nth_set_same p.steps s None (Some m.task) is-s in let w : ◌≡◌ {A = Option (Option ℕ)} (Some None) (Some (Some t)) = cc in grind arith in
+      let apart : x ≡ s → ⊥ = λ z. let k = nth_set_same p.steps s None (Some m.task) is_s in let w : ◌≡◌ {A = Option (Option ℕ)} (Some None) (Some (Some t)) = cc in grind arith in
       let old : slice_get p.steps x ≡ Some (Some t) = sym (nth_set_other p.steps s x None apart) ∙ same in
       inl (subst (λ (y : ℕ). In y (steps_of p)) (let z : x + 0 ≡ x = omega arith in z) (number_in p.steps 0 x t old), apart))
       (λ l.
@@ -97,10 +97,10 @@ module _ (ts : List Task) (p : Plan) (s : ℕ) (m : Method) (q : Plan) (sound : 
 
   pub framed_decomposed : Ends ts → Framed p → Framed q
   framed_decomposed ends f =
-      let made = gives ts p s m sound q fits is-s e in
+      let made = gives ts p s m sound q fits is_s e in
       let a = not_end 0 f.init ends.0 in
       let b = not_end 1 f.goal ends.1 in
-      let mine = f.between s (subst (λ (y : ℕ). In y (steps_of p)) (let z : s + 0 ≡ s = omega arith in z) (number_in p.steps 0 s m.task is-s)) (λ z. a (sym z)) (λ z. b (sym z)) in
+      let mine = f.between s (subst (λ (y : ℕ). In y (steps_of p)) (let z : s + 0 ≡ s = omega arith in z) (number_in p.steps 0 s m.task is_s)) (λ z. a (sym z)) (λ z. b (sym z)) in
       record {
         init = stays 0 0 f.init a;
         goal = stays 1 1 f.goal b;
@@ -113,7 +113,7 @@ module _ (ts : List Task) (p : Plan) (s : ℕ) (m : Method) (q : Plan) (sound : 
 
   -- ---- new steps are not ordered by where they stand in the method
 
-  module _ (no-order : (a b : ℕ) → Holds m.before a b → ⊥) (no-links : m.links ≡ []) (free : (l : Link) → Linked l p.links → (l.producer ≡ s → ⊥) × (l.consumer ≡ s → ⊥)) where
+  module _ (no_order : (a b : ℕ) → Holds m.before a b → ⊥) (no_links : m.links ≡ []) (free : (l : Link) → Linked l p.links → (l.producer ≡ s → ⊥) × (l.consumer ≡ s → ⊥)) where
     -- the step of the plan before that a step comes from
     from : ℕ → ℕ
     from x = cond (leb (length p.steps) x) s x
@@ -156,7 +156,7 @@ module _ (ts : List Task) (p : Plan) (s : ℕ) (m : Method) (q : Plan) (sound : 
     pairs x y (after_new k h) =
         let own = sound.own_steps s y h in
         subst₂ (λ (a b : ℕ). Holds p.before a b) (sym (from_new x k)) (sym (from_old y (below p y own.1))) h
-    pairs x y (in_method a b ha hb h) = absurd (no-order a b h)
+    pairs x y (in_method a b ha hb h) = absurd (no_order a b h)
     pairs x y (by_link l i k) = ⊎_elim
         (λ r.
         let old = r.0 in
@@ -165,12 +165,12 @@ module _ (ts : List Task) (p : Plan) (s : ℕ) (m : Method) (q : Plan) (sound : 
         let ex = k.0 ∙ (ap (λ (z : Link). z.producer) r.2 ∙ (arrives.other_producer old apart.0).0) in
         let ey = k.1 ∙ (ap (λ (z : Link). z.consumer) r.2 ∙ (arrives.other_consumer old apart.1).0) in
         linked_old x y old r.1 ex ey k.2 k.3)
-        (λ r. absurd (subst (Linked r.0) no-links r.1))
-        ((gives ts p s m sound q fits is-s e).no_other l i)
+        (λ r. absurd (subst (Linked r.0) no_links r.1))
+        ((gives ts p s m sound q fits is_s e).no_other l i)
 
     pub unordered : (x y : ℕ) → New (length p.steps) (length m.steps) x → New (length p.steps) (length m.steps) y → Holds q.before x y → ⊥
     unordered x y hx hy h =
-        let made = gives ts p s m sound q fits is-s e in
+        let made = gives ts p s m sound q fits is_s e in
         let back = chained_into _ (λ (a b : ℕ). Holds p.before (from a) (from b)) pairs (λ a b c. sound.passes_on (from a) (from b) (from c)) ((made.order x y).0 h) in
         sound.never_itself s (subst₂ (λ (a b : ℕ). Holds p.before a b) (from_new x hx) (from_new y hy) back)
 
@@ -248,5 +248,5 @@ pub sequence_orders_nothing : SequenceOrdersNothing
 sequence_orders_nothing = record {
   new_step = λ ts p t sound f x. let o = outer ts p sound f in (only_init p.before (length p.steps) o x, only_goal p.before (length p.steps) o x);
   two_steps = λ ts p t u sound f. two_apart p.before (length p.steps) (length (p.steps ++ (Some t ∷ []))) (length-append p.steps (Some t ∷ [])) (outer ts p sound f);
-  decomposed = λ ts p s m q sound fits is-s e. unordered ts p s m q sound fits is-s e;
+  decomposed = λ ts p s m q sound fits is_s e. unordered ts p s m q sound fits is_s e;
 }

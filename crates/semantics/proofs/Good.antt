@@ -210,7 +210,7 @@ pub draft_whole : (ts : List Task) (m : Method) (t : Task) → slice_get ts m.ta
     → ((j f : ℕ) → Labelled t.needs j f → (e : ℕ × ℕ) × (m.needs_go j ≡ Some e))
     → ((i f : ℕ) → Labelled t.adds i f → (e : ℕ × ℕ) × (m.adds_go i ≡ Some e))
     → Draft ts m → Fits ts m
-draft_whole ts m t h all-needs all-adds d =
+draft_whole ts m t h all_needs all_adds d =
     let q : d.task ≡ t = same_task ts m.task d.task t d.is_task h in
     record {
       task = d.task;
@@ -219,11 +219,11 @@ draft_whole ts m t h all-needs all-adds d =
       tasks_known = d.tasks_known;
       plain_steps = d.plain_steps;
       needs = λ j f i.
-          let e = all-needs j f (subst (λ (u : Task). Labelled u.needs j f) q i) in
+          let e = all_needs j f (subst (λ (u : Task). Labelled u.needs j f) q i) in
           let r = d.needs j e.0 e.1 in
           (e.0.0, e.0.1, r.1, e.1, r.2, subst (λ (z : ℕ). Labelled r.1.needs e.0.1 z) (same_label d.task.needs j r.0 f r.4 i) r.3);
       adds = λ j f i.
-          let e = all-adds j f (subst (λ (u : Task). Labelled u.adds j f) q i) in
+          let e = all_adds j f (subst (λ (u : Task). Labelled u.adds j f) q i) in
           let r = d.adds j e.0 e.1 in
           (e.0.0, e.0.1, r.1, e.1, r.2, subst (λ (z : ℕ). Labelled r.1.adds e.0.1 z) (same_label d.task.adds j r.0 f r.4 i) r.3);
       links = d.links;

@@ -100,13 +100,13 @@ idle ts p done b T A r n out inv = record {
 take_step : (ts : List Task) (p : Plan) (done : List ℕ) (b : Book) (T : ℕ → Type 0) (A : Type 0) (s : ℕ) → b.phase ≡ Running
     → ts ≡ b.tasks → p.steps ≡ b.plan.steps → CanTake p done s → Inv ts p done b T A
     → Inv ts p (s ∷ done) (fed b (Ok (Take s)) 0) (T' (Ok (Take s)) 0 T) (A' (Ok (Take s)) 0 A)
-take_step ts p done b T A s run same-tasks same-steps can inv = record {
+take_step ts p done b T A s run same_tasks same_steps can inv = record {
   executable = λ h. inv.executable run;
   in_order = (can, inv.in_order);
   facts = λ f. let r : is_running b.phase ≡ true = ap is_running run in
-      let same-facts : b.facts ≡ facts_after ts p done = fun_ext inv.facts in
+      let same_facts : b.facts ≡ facts_after ts p done = fun_ext inv.facts in
       let same_task : task_in_book b s ≡ task_of ts p s = cc in
-      rw r (ap₂ (λ (o : Option Task) (fs : Facts). after_step o fs f) same_task same-facts);
+      rw r (ap₂ (λ (o : Option Task) (fs : Facts). after_step o fs f) same_task same_facts);
   same = λ x. (
     λ i. ⊎_elim (λ e. inl (ap (λ (z : ℕ). Ok (Take z)) (sym e), refl)) (λ k. inr ((inv.same x).0 k)) i,
     λ i. ⊎_elim (λ e. let q : ◌≡◌ {A = Result Command Refusal} (Ok (Take s)) (Ok (Take x)) = e.0 in inl (cc)) (λ k. inr ((inv.same x).1 k)) i,
@@ -117,11 +117,11 @@ take_step ts p done b T A s run same-tasks same-steps can inv = record {
 other_step : (ts : List Task) (p p' : Plan) (ts' : List Task) (b : Book) (T : ℕ → Type 0) (A : Type 0) (c : Command) → (b.phase ≡ Running → ⊥) → is_running b.phase ≡ false
     → ((s : ℕ) → c ≡ Take s → ⊥) → (c ≡ Judge → Executable ts' p') → Inv ts p [] b T A
     → Inv ts' p' [] (fed b (Ok c) 0) (T' (Ok c) 0 T) (A' (Ok c) 0 A)
-other_step ts p p' ts' b T A c out test no-take judged inv = record {
+other_step ts p p' ts' b T A c out test no_take judged inv = record {
   executable = λ h. judged (into_running c b.phase out h);
   in_order = tt;
   facts = λ f. ap (λ (fs : Facts). fs f) (facts_kept c b test) ∙ inv.facts f;
-  same = λ s. (λ i. absurd i, λ i. ⊎_elim (λ e. let q = e.0 in no-take s (cc)) (inv.same s).1 i);
+  same = λ s. (λ i. absurd i, λ i. ⊎_elim (λ e. let q = e.0 in no_take s (cc)) (inv.same s).1 i);
   accepted = (
     λ a. ⊎_elim (λ e. let q : c ≡ Judge = (let z = e.0 in cc) in ap (λ (k : Command). phase_after k b.phase) q) (λ k. absurd (out (inv.accepted.0 k))) a,
     λ h. inl (ap Ok (into_running c b.phase out h), refl),
@@ -190,10 +190,10 @@ module _ (capacity : ℕ) where
       rest : ((b.phase ≡ Running → ⊥) × (is_running b.phase ≡ false)) → At (next st c) (fed b (Ok c) 0) (T' (Ok c) 0 T) (A' (Ok c) 0 A)
       rest out =
           let out' : st.phase ≡ Running → ⊥ = λ r. out.0 (sym i.alike.phase ∙ r) in
-          let no-take = not_take st c out' a in
+          let no_take = not_take st c out' a in
           let inv₀ : Inv st.tasks st.plan [] b T A = subst (λ (d : List ℕ). Inv st.tasks st.plan d b T A) (i.fresh out') inv in
-          subst (λ (d : List ℕ). Inv (next st c).tasks (next st c).plan d (fed b (Ok c) 0) (T' (Ok c) 0 T) (A' (Ok c) 0 A)) (sym (taken_kept c st no-take ∙ i.fresh out'))
-          (other_step st.tasks st.plan (next st c).plan (next st c).tasks b T A c out.0 out.1 no-take judged inv₀)
+          subst (λ (d : List ℕ). Inv (next st c).tasks (next st c).plan d (fed b (Ok c) 0) (T' (Ok c) 0 T) (A' (Ok c) 0 A)) (sym (taken_kept c st no_take ∙ i.fresh out'))
+          (other_step st.tasks st.plan (next st c).plan (next st c).tasks b T A c out.0 out.1 no_take judged inv₀)
 
   one_command : (st : State) (b : Book) (T : ℕ → Type 0) (A : Type 0) (c : Command) → InStep st b → At st b T A → (n : ℕ) → (verdict capacity st c).code ≡ n
       → At (state_for st (Ok c) n) (fed b (Ok c) n) (T' (Ok c) n T) (A' (Ok c) n A)

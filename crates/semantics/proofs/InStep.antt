@@ -188,9 +188,9 @@ alike_at_decompose st s m b g a al =
     subst (λ (ts : List Task). PlanAlike q (decomposed ts b.plan s n)) al.tasks
     (subst (λ (z : BookPlan). PlanAlike q (decomposed st.tasks z s n)) (by_plan_is st.plan b.plan al.plan)
     (record { steps = r.0; links = r.1; order = r.3 })) in
-    let book-is : decomposed b.tasks b.plan s n ≡ (enter (Decompose s m) b).plan =
+    let book_is : decomposed b.tasks b.plan s n ≡ (enter (Decompose s m) b).plan =
     sym (ap (λ (ph : Phase). (cond (is_refine ph) (decompose_by b s (slice_get b.methods m)) b).plan) f ∙ ap (λ (o : Option Method). (decompose_by b s o).plan) hn) in
-    subst₂ (λ (x : Plan) (z : BookPlan). PlanAlike x z) (sym (plan_x st s m a.0 n a.1.1 q a.1.3.1)) book-is there
+    subst₂ (λ (x : Plan) (z : BookPlan). PlanAlike x z) (sym (plan_x st s m a.0 n a.1.1 q a.1.3.1)) book_is there
 
 alike_at_take : (st : State) (s : ℕ) (b : Book) → GoodState st → Allowed st (Take s) → Alike st b → PlanAlike ((next st (Take s)).plan) (enter (Take s) b).plan
 alike_at_take st s b g a al = let f : b.phase ≡ Running = sym al.phase ∙ a.0 in rw f al.plan

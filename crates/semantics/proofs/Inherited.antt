@@ -86,7 +86,7 @@ linked_map f l [] h = absurd h
 linked_map f l (x ∷ xs) (inl e) = (x, inl refl, e)
 linked_map f l (x ∷ xs) (inr h) = let r = linked_map f l xs h in (r.0, inr r.1, r.2)
 
-module _ (ts : List Task) (p : Plan) (sound : Sound ts p) (s : ℕ) (m : Method) (fits : Fits ts m) (is-s : slice_get p.steps s ≡ Some (Some m.task)) where
+module _ (ts : List Task) (p : Plan) (sound : Sound ts p) (s : ℕ) (m : Method) (fits : Fits ts m) (is_s : slice_get p.steps s ≡ Some (Some m.task)) where
   n : ℕ
   n = length p.steps
 
@@ -110,7 +110,7 @@ module _ (ts : List Task) (p : Plan) (sound : Sound ts p) (s : ℕ) (m : Method)
   joins_task a u h = ap (at_task ts) (joins a) ∙ h
 
   task_of_s : (t : Task) → task_of ts p s ≡ Some t → t ≡ fits.task
-  task_of_s t h = let k : at_task ts (slice_get p.steps s) ≡ slice_get ts m.task = ap (at_task ts) is-s in let z = fits.is_task in cc
+  task_of_s t h = let k : at_task ts (slice_get p.steps s) ≡ slice_get ts m.task = ap (at_task ts) is_s in let z = fits.is_task in cc
 
   -- the producer's end of a link, passed down
   from_end : (l : Link) (f : ℕ) → Protects ts p l f → (u : Task) × (at_task ts (slice_get ss (passed_down n s m l).producer) ≡ Some u) × Labelled u.adds (passed_down n s m l).add f
@@ -204,7 +204,7 @@ module _ (ts : List Task) (p : Plan) (sound : Sound ts p) (s : ℕ) (m : Method)
     where
       old : (t : ℕ) → slice_get (set p.steps s None) x ≡ Some (Some t) → (u : Task) × (slice_get ts t ≡ Some u)
       old t h = ⊎_elim
-          (λ e. let k = nth_set_same p.steps s None (Some m.task) is-s in
+          (λ e. let k = nth_set_same p.steps s None (Some m.task) is_s in
           let h' : slice_get (set p.steps s None) s ≡ Some (Some t) = subst (λ (z : ℕ). slice_get (set p.steps s None) z ≡ Some (Some t)) e h in
           let w : ⊥ = grind arith in absurd w)
           (λ apart.

@@ -176,7 +176,7 @@ module _ (capacity : ℕ) (st : State) where
       let n = nth_below t.needs j f l in
       let q : length (needs_of (task_of st.tasks st.plan x)) ≡ length t.needs = ap (λ (o : Option Task). length (needs_of o)) e in
       (upfrom_in 0 (length (needs_of (task_of st.tasks st.plan x))) j).1 (omega arith, omega arith) in
-      let lower-step : (x j f : ℕ) (t : Task) → task_of st.tasks st.plan x ≡ Some t → Labelled t.needs j f → x < a → Supplied st.plan x j = λ x j f t e l k.
+      let lower_step : (x j f : ℕ) (t : Task) → task_of st.tasks st.plan x ≡ Some t → Labelled t.needs j f → x < a → Supplied st.plan x j = λ x j f t e l k.
       let none = low x (step_in st.tasks st.plan x t e) k in
       producer_linked st.plan.links x j (not-false _ (such_none (λ i. not (is_some (producer st.plan.links x i))) (upfrom 0 (length (needs_of (task_of st.tasks st.plan x)))) none j (label x j f t e l))) in
       let same_step : (x j f : ℕ) (t : Task) → task_of st.tasks st.plan x ≡ Some t → Labelled t.needs j f → x ≡ a → j < b → Supplied st.plan x j = λ x j f t e l q k.
@@ -186,7 +186,7 @@ module _ (capacity : ℕ) (st : State) where
       let e₁ : b ≡ (verdict capacity st Judge).b = sym u.3 ∙ ap (λ (w : Row). w.b) (sym r.2) in
       let out : Supplied st.plan a b → ⊥ = λ k. both_ways _ (not-true _ m.0) (linked_producer st.plan.links a b k.0 k.1 k.2 k.3) in (
         subst₂ (λ (x y : ℕ). Supplied st.plan x y → ⊥) e₀ e₁ out,
-        λ x j f t e l k. ⊎_elim (λ z. lower-step x j f t e l (subst (λ (y : ℕ). x < y) (sym e₀) z))
+        λ x j f t e l k. ⊎_elim (λ z. lower_step x j f t e l (subst (λ (y : ℕ). x < y) (sym e₀) z))
             (λ z. same_step x j f t e l (z.0 ∙ sym e₀) (subst (λ (y : ℕ). j < y) (sym e₁) z.1)) k,
       )
 

@@ -121,9 +121,9 @@ pub order_between : (R : Relation) → Strict R → (steps : List ℕ) → Once 
     → (t ≡ p → ⊥) → (t ≡ c → ⊥) → (Holds R t p → ⊥) → (Holds R c t → ⊥) → Holds R p c
     → (order : List ℕ) × Permitted steps (Holds R) order × Earlier order p t × Earlier order t c
 unfolding between
-order_between R s steps o p t c ip it ic tp tc before-p after-c pc =
+order_between R s steps o p t c ip it ic tp tc before_p after_c pc =
     let S : Relation = between R p t c in
-    let s₁ : Strict (put R p t) = put_strict R p t s (λ e. tp (sym e)) before-p in
+    let s₁ : Strict (put R p t) = put_strict R p t s (λ e. tp (sym e)) before_p in
     let s₂ : Strict S = put_strict (put R p t) t c s₁ tc (λ h. grind (arith, put_cases R p t c t h, s.never_itself c, s.never_itself p, s.passes_on c p c)) in
     let perm : Permitted steps (Holds S) (arrange S steps) = permitted S s₂ steps o in (
       arrange S steps,

@@ -102,15 +102,15 @@ module _ (ts : List Task) (p : Plan) (sound : Sound ts p) (exec : Executable ts 
       let l : Link = found.0 in
       let fit = sound.links_fit l found.1 in
       let pr : Protects ts p l fit.0 = fit.1 in
-      let to-s : l.consumer ≡ s = found.2 in
+      let to_s : l.consumer ≡ s = found.2 in
       let at_j : l.need ≡ j.0 = found.3 in
-      let here : task_of ts p s ≡ Some pr.taker = subst (λ (x : ℕ). task_of ts p x ≡ Some pr.taker) to-s pr.takes in
+      let here : task_of ts p s ≡ Some pr.taker = subst (λ (x : ℕ). task_of ts p x ≡ Some pr.taker) to_s pr.takes in
       let same_task : pr.taker ≡ t = cc in
-      let at-need : slice_get t.needs j.0 ≡ Some fit.0 = subst (λ (u : Task). slice_get u.needs j.0 ≡ Some fit.0) same_task (subst (λ (n : ℕ). slice_get pr.taker.needs n ≡ Some fit.0) at_j pr.needed) in
+      let at_need : slice_get t.needs j.0 ≡ Some fit.0 = subst (λ (u : Task). slice_get u.needs j.0 ≡ Some fit.0) same_task (subst (λ (n : ℕ). slice_get pr.taker.needs n ≡ Some fit.0) at_j pr.needed) in
       let same : fit.0 ≡ f = cc in
       let before : Holds p.before l.producer l.consumer = pr.ordered (exec.all_primitive l.producer pr.giver pr.gives) (exec.all_primitive l.consumer pr.taker pr.takes) in
       subst (λ (g : ℕ). facts_after ts p done g ≡ true) same
-      (link_holds l fit.0 found.1 pr done taken (can.behind l.producer (subst (λ (c : ℕ). Holds p.before l.producer c) to-s before)) (λ k. can.untaken (subst (λ (c : ℕ). In c done) to-s k)))
+      (link_holds l fit.0 found.1 pr done taken (can.behind l.producer (subst (λ (c : ℕ). Holds p.before l.producer c) to_s before)) (λ k. can.untaken (subst (λ (c : ℕ). In c done) to_s k)))
 
 pub needs_are_met : NeedsAreMet
 needs_are_met = needs_met

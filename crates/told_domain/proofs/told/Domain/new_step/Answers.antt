@@ -15,7 +15,7 @@ invariant_of-self c =
     let self = c.args.self.now in
     let ts = tasks self.known in
     let m = method self.draft in
-    let by-rules = first_of (step_causes ts (length m.steps) 8 c.args.task) (length m.steps) in
+    let by_rules = first_of (step_causes ts (length m.steps) 8 c.args.task) (length m.steps) in
     let kept =
-    draft_line self.phase ts (items self.list) self.draft c.step.new.self (step_of m c.args.task) (row c.step.result) by-rules c.step.ensures.answer c.step.ensures.after (kept_step ts m c.args.task (length m.steps)) (held self) in
+    draft_line self.phase ts (items self.list) self.draft c.step.new.self (step_of m c.args.task) (row c.step.result) by_rules c.step.ensures.answer c.step.ensures.after (kept_step ts m c.args.task (length m.steps)) (held self) in
     record { fitting = kept.fitting; drafting = kept.drafting; unused = kept.unused; room = kept.room }

@@ -15,7 +15,7 @@ invariant_of-self c =
     let self = c.args.self.now in
     let ts = tasks self.known in
     let m = method self.draft in
-    let by-rules = first_of (link_causes ts (map Some m.steps) m.links m.before 16 c.args.link) 0 in
+    let by_rules = first_of (link_causes ts (map Some m.steps) m.links m.before 16 c.args.link) 0 in
     let kept =
-    draft_line self.phase ts (items self.list) self.draft c.link.new.self (link_of ts m c.args.link) (row c.link.result) by-rules c.link.ensures.answer c.link.ensures.after (kept_link ts m c.args.link 0) (held self) in
+    draft_line self.phase ts (items self.list) self.draft c.link.new.self (link_of ts m c.args.link) (row c.link.result) by_rules c.link.ensures.answer c.link.ensures.after (kept_link ts m c.args.link 0) (held self) in
     record { fitting = kept.fitting; drafting = kept.drafting; unused = kept.unused; room = kept.room }

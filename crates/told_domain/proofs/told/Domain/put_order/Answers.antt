@@ -15,7 +15,7 @@ invariant_of-self c =
     let self = c.args.self.now in
     let ts = tasks self.known in
     let m = method self.draft in
-    let by-rules = first_of (order_causes (map Some m.steps) m.before c.args.earlier c.args.later) 0 in
+    let by_rules = first_of (order_causes (map Some m.steps) m.before c.args.earlier c.args.later) 0 in
     let kept =
-    draft_line self.phase ts (items self.list) self.draft c.order.new.self (order_of m c.args.earlier c.args.later) (row c.order.result) by-rules c.order.ensures.answer c.order.ensures.after (kept_order ts m c.args.earlier c.args.later 0) (held self) in
+    draft_line self.phase ts (items self.list) self.draft c.order.new.self (order_of m c.args.earlier c.args.later) (row c.order.result) by_rules c.order.ensures.answer c.order.ensures.after (kept_order ts m c.args.earlier c.args.later 0) (held self) in
     record { fitting = kept.fitting; drafting = kept.drafting; unused = kept.unused; room = kept.room }

@@ -14,7 +14,7 @@ invariant_of-self c =
     let self = c.args.self.now in
     let ts = tasks self.known in
     let m = method self.draft in
-    let by-rules = first_of (need_entry_causes ts m c.args.need c.args.step c.args.label) 0 in
+    let by_rules = first_of (need_entry_causes ts m c.args.need c.args.step c.args.label) 0 in
     let kept =
-    draft_line self.phase ts (items self.list) self.draft c.route_need.new.self (need_entry m c.args.need (c.args.step, c.args.label)) (row c.route_need.result) by-rules c.route_need.ensures.answer c.route_need.ensures.after (kept_need ts m c.args.need c.args.step c.args.label 0) (held self) in
+    draft_line self.phase ts (items self.list) self.draft c.route_need.new.self (need_entry m c.args.need (c.args.step, c.args.label)) (row c.route_need.result) by_rules c.route_need.ensures.answer c.route_need.ensures.after (kept_need ts m c.args.need c.args.step c.args.label 0) (held self) in
     record { fitting = kept.fitting; drafting = kept.drafting; unused = kept.unused; room = kept.room }
