@@ -10,9 +10,9 @@ use Rattle.yardcheck.proofs.printed.Goals as goal
 abbrev too_long : List ℕ
 too_long = 49 ∷ 48 ∷ 44 ∷ 49 ∷ 54 ∷ 51 ∷ 56 ∷ 52 ∷ 44 ∷ 48 ∷ 44 ∷ 48 ∷ 13 ∷ 10 ∷ []
 
-its-row : too_long ≡ row_text (as_row 10 16384 0 0)
+its_row : too_long ≡ row_text (as_row 10 16384 0 0)
 unfolding digits
-its-row = refl
+its_row = refl
 
 pub returns : goal.returns
 returns c =
@@ -20,5 +20,5 @@ returns c =
     let long : leb (length text) 16384 ≡ false = let l = c.if-text-le-MOST_BYTES.false in grind (arith, l) in
     c.in_ok-extend_from_slice.ensures.items
     ∙ ap (λ (xs : List ℕ). xs ++ too_long) c.new-row.ensures.items
-    ∙ its-row
+    ∙ its_row
     ∙ sym (ap (λ (b : Bool). cond b (rows_text 64 [] (lines text)) (row_text (as_row 10 16384 0 0))) long)
