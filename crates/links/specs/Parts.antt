@@ -1,4 +1,4 @@
--- The causes of L in two parts: by what its fields name, and by what the method or the plan holds already.
+-- The causes of L in two parts: by what its fields name, and by what the list of links and the order hold already.
 use Rattle.std.specs.Prelude.{ℕ, Bool, not, ◌&&◌, ◌||◌, List, [], ◌∷◌, length, Some, None, Option, ◌==◌, nat_le, nat_lt}
 use Rattle.std.specs.List.{slice_get}
 use Rattle.page.specs.Answers.{as_row}
