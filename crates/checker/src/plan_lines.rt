@@ -10,7 +10,7 @@ ghost use Rattle.checker.specs.Outcomes.{Obeys};
 use crate::Checker;
 use decomposing::decompose;
 use order::Keeper;
-use page::Answer;
+use page::{Answer, Refusal};
 use semantics::{Link, Phase};
 use told_domain::Domain;
 
@@ -73,7 +73,7 @@ impl<K: Keeper> Checker<K> {
                 step,
                 method,
             ),
-            _ => Answer::WrongPhase,
+            _ => Err(Refusal::WrongPhase),
         }
     }
 
@@ -82,7 +82,7 @@ impl<K: Keeper> Checker<K> {
         ensures { Obeys K.capacity tells.Judge (row result) (held (K.before self.old.keeper) self.old) (held (K.before self.new.keeper) self.new) }
     {
         let Phase::Refine = self.domain.phase() else {
-            return Answer::WrongPhase;
+            return Err(Refusal::WrongPhase);
         };
         let answer = self.plan.judge(&self.keeper, self.domain.tasks());
         judged(&mut self.domain, answer);
@@ -97,7 +97,7 @@ impl<K: Keeper> Checker<K> {
             Phase::Running => {
                 self.plan.take(&self.keeper, self.domain.tasks(), &mut self.progress, step)
             }
-            _ => Answer::WrongPhase,
+            _ => Err(Refusal::WrongPhase),
         }
     }
 }

@@ -24,7 +24,7 @@ use crate::revising::{Revised, revise};
 use domain::Tasks;
 use methods::Method;
 use order::{Keeper, Refused};
-use page::Answer;
+use page::{Answer, Refusal};
 use plan::Plan;
 use told_domain::Domain;
 
@@ -90,22 +90,22 @@ pub fn decompose<K: Keeper>(
     ensures same { ((row result).code == 0) ≡ false → (keeper.new ≡ keeper.old) × (target.new ≡ target.old) }
 {
     let Some(task) = target.task_number(s) else {
-        return Answer::NoSuchName { field: 1 };
+        return Err(Refusal::NoSuchName { field: 1 });
     };
     let Some(by) = domain.method(m) else {
-        return Answer::NoSuchName { field: 2 };
+        return Err(Refusal::NoSuchName { field: 2 });
     };
     if task != by.task() {
-        return Answer::WrongKind;
+        return Err(Refusal::WrongKind);
     }
     let Some(after) = revise(target, by, s, K::steps()) else {
-        return Answer::LimitPassed;
+        return Err(Refusal::LimitPassed);
     };
     let Some(next) = order_after(keeper, target, domain.tasks(), by, s, &after) else {
-        return Answer::Circle;
+        return Err(Refusal::Circle);
     };
     let number = target.given() as u64;
     *keeper = next;
     target.revise(after.steps, after.links);
-    Answer::Accepted { number }
+    Ok(number)
 }

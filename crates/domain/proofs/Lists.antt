@@ -2,7 +2,10 @@
 use Rattle.std.proofs.Common.{◌≡◌, ℕ, zero, suc, ◌||◌, eqb, ltb, List, [], ◌∷◌, ◌++◌, map, length, set, is_some, Some, None, Option, refl, ap, arith}
 use Rattle.std.specs.List.{slice_get}
 use Rattle.std.specs.Option.{option_map}
-use Rattle.semantics.specs.Tasks.{changed}
+use Rattle.semantics.specs.Tasks.{changed, Task, with_add, with_delete, with_need}
+use Rattle.domain.specs.Roles.{tasks_with_fact, with_fact}
+use Rattle.domain.specs.declared.role.Role.{Role}
+use Rattle.domain.specs.declared.role.Role.TheVariants.{Add, Delete, Need}
 use Rattle.semantics.specs.Facts.{among}
 
 -- the facts of a list with one more
@@ -35,3 +38,9 @@ pub set_changed : {X : Type 0} (f : X → X) (xs : List X) (i : ℕ) (x : X) →
 set_changed f [] i x e = refl
 set_changed f (z ∷ xs) zero x e = grind arith
 set_changed f (z ∷ xs) (suc i) x e = ap (λ ys. z ∷ ys) (set_changed f xs i x e)
+
+-- a fact more in a role of the task at one place
+pub fact_changed : (role : Role) (t f : ℕ) (ts : List Task) (x : Task) → Some x ≡ slice_get ts t → set ts t (with_fact role f x) ≡ tasks_with_fact role t f ts
+fact_changed Need t f ts x e = set_changed (with_need f) ts t x e
+fact_changed Add t f ts x e = set_changed (with_add f) ts t x e
+fact_changed Delete t f ts x e = set_changed (with_delete f) ts t x e

@@ -1,16 +1,14 @@
-ghost use Rattle.std.specs.Prelude.{◌≡◌, ℕ, ◌<◌, ◌≤◌, true, [], ◌∷◌, ◌++◌, length, is_some, if◌then◌else◌};
+ghost use Rattle.std.specs.Prelude.{◌≡◌, ℕ, ◌<◌, ◌≤◌, true, [], ◌∷◌, ◌++◌, length, is_ok, is_some, if◌then◌else◌};
 ghost use Rattle.std.specs.List.{slice_get};
+ghost use Rattle.std.specs.Result.{result_ok};
 ghost use Rattle.semantics.specs.Facts.{among};
 ghost use Rattle.domain.specs.Facts.{label_of_next};
 ghost use Rattle.masks.specs.Bits.{bit};
 ghost use Rattle.domain.specs.Meaning.{facts};
 
 use crate::FactList;
-use fixed::Fixed;
+use fixed::{Fixed, Full};
 use masks::{marked, only};
-
-/// A list has at most this many facts.
-const MOST_FACTS: usize = 32;
 
 impl FactList {
     /// A list without facts.
@@ -53,18 +51,15 @@ impl FactList {
         fact < 64 && marked(self.mask, fact)
     }
 
-    /// Ends the list with a fact and answers its label. A full list answers `None`, and stays as it is.
-    pub(super) fn push(&mut self, fact: u8) -> Option<u8>
+    /// Ends the list with a fact and answers its label. A full list stays as it is.
+    pub(super) fn push(&mut self, fact: u8) -> Result<u8, Full>
         requires { fact < 64 }
-        ensures label { result ≡ label_of_next (facts self.old) }
-        ensures after { facts self.new ≡ (if is_some result then facts self.old ++ (fact ∷ []) else facts self.old) }
+        ensures label { result_ok result ≡ label_of_next (facts self.old) }
+        ensures after { facts self.new ≡ (if is_ok result then facts self.old ++ (fact ∷ []) else facts self.old) }
     {
-        let label = self.list.len();
-        if label >= MOST_FACTS {
-            return None;
-        }
-        let _ = self.list.push(fact);
+        let label = self.list.len() as u8;
+        self.list.push(fact)?;
         self.mask |= only(fact);
-        Some(label as u8)
+        Ok(label)
     }
 }

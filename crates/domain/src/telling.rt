@@ -1,28 +1,45 @@
 //! The lines that tell tasks. A refused line leaves the tasks as they were.
-ghost use Rattle.std.specs.Prelude.{◌≡◌, ℕ, not, ◌||◌, length, ◌==◌};
+ghost use Rattle.std.specs.Prelude.{◌≡◌, ◌<◌, is_ok, length, if◌then◌else◌, Some};
 ghost use Rattle.std.specs.List.{slice_get};
+ghost use Rattle.std.specs.Result.{result_ok};
 ghost use Rattle.page.specs.Answers.{row};
 ghost use Rattle.semantics.specs.Causes.{first_of, told};
-ghost use Rattle.semantics.specs.TaskLines.{add_causes, delete_causes, need_causes, task_causes, tasks_with_add, tasks_with_delete, tasks_with_need, tasks_with_task};
-ghost use Rattle.semantics.specs.Tasks.{adds_of, deletes_of, needs_of};
-ghost use Rattle.domain.specs.Meaning.{is_primitive_kind, tasks};
+ghost use Rattle.semantics.specs.TaskLines.{task_causes, tasks_with_task};
+ghost use Rattle.domain.specs.Facts.{label_of_next};
+ghost use Rattle.domain.specs.Meaning.{is_primitive_kind, task, tasks};
+ghost use Rattle.domain.specs.Roles.{append_causes, facts_of, may_play, tasks_with_fact, with_fact};
 
-use crate::{Kind, Task, Tasks};
-use page::Answer;
-
-/// There are at most this many tasks, init and goal counted.
-const MOST_TASKS: usize = 32;
+use crate::{Kind, Role, Task, Tasks};
+use fixed::Full;
+use page::{Answer, Refusal};
 
 /// Facts are the numbers below this one.
 const FACTS: u8 = 64;
 
-/// Whether a task has no deletes: init, goal and every compound task.
-fn never_deletes(t: u8, kind: Kind) -> bool
-    ensures { result ≡ (t == 0 || (t == 1 || not (is_primitive_kind kind))) }
-{
-    match kind {
-        Kind::Primitive => t <= 1,
-        Kind::Compound => true,
+impl Task {
+    /// Whether facts can play this role in the task, whose number is `t`: init needs nothing, goal adds nothing, and neither they nor
+    /// compound tasks delete.
+    fn may_play(&self, t: u8, role: Role) -> bool
+        ensures { result ≡ may_play role t (task self.now) }
+    {
+        match role {
+            Role::Need => t != 0,
+            Role::Add => t != 1,
+            Role::Delete => t > 1 && self.is_primitive(),
+        }
+    }
+
+    /// Ends the list of a role with a fact and answers its label. A full list stays as it is.
+    fn push(&mut self, role: Role, fact: u8) -> Result<u8, Full>
+        requires { fact < 64 }
+        ensures label { result_ok result ≡ label_of_next (facts_of role (Some (task self.old))) }
+        ensures after { task self.new ≡ (if is_ok result then with_fact role fact (task self.old) else task self.old) }
+    {
+        match role {
+            Role::Need => self.needs.push(fact),
+            Role::Add => self.adds.push(fact),
+            Role::Delete => self.deletes.push(fact),
+        }
     }
 }
 
@@ -33,81 +50,24 @@ impl Tasks {
         ensures after { tasks self.new ≡ told (row result) (tasks_with_task (is_primitive_kind kind) (tasks self.old)) (tasks self.old) }
     {
         let number = self.list.len();
-        if number >= MOST_TASKS {
-            return Answer::LimitPassed;
-        }
-        let _ = self.list.push(Task::bare(kind));
-        Answer::Accepted {
-            number: number as u64,
-        }
+        self.list.push(Task::bare(kind))?;
+        Ok(number as u64)
     }
 
-    /// N: a fact ends the needs of a task. Its label is the answer.
-    pub fn append_need(&mut self, task: u8, fact: u8) -> Answer
-        ensures answer { row result ≡ first_of (need_causes (tasks self.old) task fact) (length (needs_of (slice_get (tasks self.old) task))) }
-        ensures after { tasks self.new ≡ told (row result) (tasks_with_need task fact (tasks self.old)) (tasks self.old) }
+    /// N, A and D: a fact ends the needs, the adds or the deletes of a task. Its label is the answer.
+    pub fn append(&mut self, role: Role, task: u8, fact: u8) -> Answer
+        ensures answer { row result ≡ first_of (append_causes role (tasks self.old) task fact) (length (facts_of role (slice_get (tasks self.old) task))) }
+        ensures after { tasks self.new ≡ told (row result) (tasks_with_fact role task fact (tasks self.old)) (tasks self.old) }
     {
-        let Some(mut entry) = self.copy_of(task) else {
-            return Answer::NoSuchName { field: 1 };
-        };
+        let mut entry = self.copy_of(task).ok_or(Refusal::NoSuchName { field: 1 })?;
         if fact >= FACTS {
-            return Answer::NoSuchName { field: 2 };
+            return Err(Refusal::NoSuchName { field: 2 });
         }
-        if task == 0 {
-            return Answer::WrongKind;
+        if !entry.may_play(task, role) {
+            return Err(Refusal::WrongKind);
         }
-        let Some(label) = entry.needs.push(fact) else {
-            return Answer::LimitPassed;
-        };
+        let label = entry.push(role, fact)?;
         self.replace(task, entry);
-        Answer::Accepted {
-            number: label as u64,
-        }
-    }
-
-    /// A: a fact ends the adds of a task. Its label is the answer.
-    pub fn append_add(&mut self, task: u8, fact: u8) -> Answer
-        ensures answer { row result ≡ first_of (add_causes (tasks self.old) task fact) (length (adds_of (slice_get (tasks self.old) task))) }
-        ensures after { tasks self.new ≡ told (row result) (tasks_with_add task fact (tasks self.old)) (tasks self.old) }
-    {
-        let Some(mut entry) = self.copy_of(task) else {
-            return Answer::NoSuchName { field: 1 };
-        };
-        if fact >= FACTS {
-            return Answer::NoSuchName { field: 2 };
-        }
-        if task == 1 {
-            return Answer::WrongKind;
-        }
-        let Some(label) = entry.adds.push(fact) else {
-            return Answer::LimitPassed;
-        };
-        self.replace(task, entry);
-        Answer::Accepted {
-            number: label as u64,
-        }
-    }
-
-    /// D: a fact ends the deletes of a task. Its label is the answer.
-    pub fn append_delete(&mut self, task: u8, fact: u8) -> Answer
-        ensures answer { row result ≡ first_of (delete_causes (tasks self.old) task fact) (length (deletes_of (slice_get (tasks self.old) task))) }
-        ensures after { tasks self.new ≡ told (row result) (tasks_with_delete task fact (tasks self.old)) (tasks self.old) }
-    {
-        let Some(mut entry) = self.copy_of(task) else {
-            return Answer::NoSuchName { field: 1 };
-        };
-        if fact >= FACTS {
-            return Answer::NoSuchName { field: 2 };
-        }
-        if never_deletes(task, entry.kind) {
-            return Answer::WrongKind;
-        }
-        let Some(label) = entry.deletes.push(fact) else {
-            return Answer::LimitPassed;
-        };
-        self.replace(task, entry);
-        Answer::Accepted {
-            number: label as u64,
-        }
+        Ok(u64::from(label))
     }
 }

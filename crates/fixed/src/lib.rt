@@ -4,4 +4,4 @@
 mod access;
 mod list;
 
-pub use list::Fixed;
+pub use list::{Fixed, Full};

@@ -2,6 +2,10 @@ ghost use Rattle.std.specs.Prelude.{◌≡◌, ℕ, ◌<◌, ◌≤◌, length, 
 
 use std::alloc::AllocError;
 
+/// A thing that was not put, since the list is full.
+#[derive(Clone, Copy, PartialEq, Eq, Debug)]
+pub struct Full;
+
 /// A list of at most N things: the first `count` places of an array. The places after them say nothing.
 pub struct Fixed<T, const N: usize> {
     pub(super) slots: [T; N],
@@ -11,6 +15,7 @@ pub struct Fixed<T, const N: usize> {
     ghost whole: { length slots ≡ N },
 }
 
+// By hand: `Clone` can't be derived where a struct of a type parameter has ghost fields.
 impl<T: Copy, const N: usize> Clone for Fixed<T, N> {
     ghost is_clone = { λ old new. new ≡ old };
 

@@ -1,7 +1,8 @@
 -- The causes of L in two parts: by what its fields name, and by what the list of links and the order hold already.
-use Rattle.std.specs.Prelude.{ℕ, Bool, not, ◌&&◌, ◌||◌, List, [], ◌∷◌, length, Some, None, Option, ◌==◌, nat_le, nat_lt}
+use Rattle.std.specs.Prelude.{ℕ, Bool, not, ◌&&◌, ◌||◌, List, [], ◌∷◌, length, Some, None, Option, Ok, Err, Result, ◌==◌, nat_le, nat_lt}
 use Rattle.std.specs.List.{slice_get}
-use Rattle.page.specs.Answers.{as_row}
+use Rattle.page.specs.Answers.{as_row, refusal_row}
+use Rattle.page.specs.declared.answer.Refusal.{Refusal}
 use Rattle.page.specs.declared.answer.Row.{Row}
 use Rattle.semantics.specs.Causes.{Cause, nameless, when}
 use Rattle.semantics.specs.OpenLines.{differ, is_step, task_at}
@@ -19,6 +20,11 @@ or_later n (Some v) later = Some (as_row n v.0 v.1 v.2)
 abbrev pub first_cause : List Cause → Option Row
 first_cause [] = None
 first_cause (r ∷ rs) = or_later r.0 r.1 (first_cause rs)
+
+-- the row of a refusal, where there is one
+abbrev pub refused : {X : Type 0} → Result X Refusal → Option Row
+refused (Ok x) = None
+refused (Err refusal) = Some (refusal_row refusal)
 
 -- by what the fields name: whether each names something, and the facts at both ends
 abbrev pub ends : Bool → Bool → Bool → Bool → Option ℕ → Option ℕ → List Cause

@@ -6,5 +6,5 @@
 mod ends;
 mod listing;
 
-pub use ends::bad_ends;
-pub use listing::{has_room, is_linked, is_same, join};
+pub use ends::check_ends;
+pub use listing::{has_room, is_linked, join};

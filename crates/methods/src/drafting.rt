@@ -11,7 +11,7 @@ use crate::ordering::MOST_STEPS;
 use crate::{Entries, Method, SmallOrder};
 use domain::{Tasks, is_init_or_goal};
 use fixed::Fixed;
-use page::Answer;
+use page::{Answer, Refusal};
 use semantics::Link;
 
 impl Method {
@@ -40,19 +40,17 @@ impl Method {
         ensures after { method self.new ≡ told (row result) (step_of (method self.old) task) (method self.old) }
     {
         if !known.has(task) {
-            return Answer::NoSuchName { field: 1 };
+            return Err(Refusal::NoSuchName { field: 1 });
         }
         if is_init_or_goal(task) {
-            return Answer::WrongKind;
+            return Err(Refusal::WrongKind);
         }
         let number = self.steps.len();
         if number >= MOST_STEPS as usize {
-            return Answer::LimitPassed;
+            return Err(Refusal::LimitPassed);
         }
         let _ = self.steps.push(task);
-        Answer::Accepted {
-            number: number as u64,
-        }
+        Ok(number as u64)
     }
 
     /// O: one step before another.
@@ -61,14 +59,14 @@ impl Method {
         ensures after { method self.new ≡ told (row result) (order_of (method self.old) earlier later) (method self.old) }
     {
         if !self.has_step(earlier) {
-            return Answer::NoSuchName { field: 1 };
+            return Err(Refusal::NoSuchName { field: 1 });
         }
         if !self.has_step(later) {
-            return Answer::NoSuchName { field: 2 };
+            return Err(Refusal::NoSuchName { field: 2 });
         }
         if !self.order.put(earlier, later) {
-            return Answer::Circle;
+            return Err(Refusal::Circle);
         }
-        Answer::Accepted { number: 0 }
+        Ok(0)
     }
 }

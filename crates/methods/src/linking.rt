@@ -16,7 +16,7 @@ ghost use Rattle.methods.specs.SmallOrders.{before};
 use crate::{Method, SmallOrder};
 use domain::Tasks;
 use fixed::Fixed;
-use page::Answer;
+use page::{Answer, Refusal};
 use semantics::Link;
 
 /// A method has at most this many links.
@@ -75,19 +75,19 @@ impl Method {
         ensures small { is_some result ≡ false → (l.producer < 8) × (l.consumer < 8) }
     {
         if !self.has_step(l.producer) {
-            return Some(Answer::NoSuchName { field: 1 });
+            return Some(Err(Refusal::NoSuchName { field: 1 }));
         }
         let Some(given) = self.step_add(known, l.producer, l.add) else {
-            return Some(Answer::NoSuchName { field: 2 });
+            return Some(Err(Refusal::NoSuchName { field: 2 }));
         };
         if !self.has_step(l.consumer) {
-            return Some(Answer::NoSuchName { field: 3 });
+            return Some(Err(Refusal::NoSuchName { field: 3 }));
         }
         let Some(wanted) = self.step_need(known, l.consumer, l.need) else {
-            return Some(Answer::NoSuchName { field: 4 });
+            return Some(Err(Refusal::NoSuchName { field: 4 }));
         };
         if given != wanted {
-            return Some(Answer::FactsDiffer);
+            return Some(Err(Refusal::FactsDiffer));
         }
         None
     }
@@ -100,13 +100,13 @@ impl Method {
     {
         let again = is_linked(l, self.links.as_slice());
         if is_full(again, self.links.len()) {
-            return Answer::LimitPassed;
+            return Err(Refusal::LimitPassed);
         }
         if !arrange(&mut self.order, l.producer, l.consumer, ordered) {
-            return Answer::Circle;
+            return Err(Refusal::Circle);
         }
         store(&mut self.links, l, again);
-        Answer::Accepted { number: 0 }
+        Ok(0)
     }
 
     /// L: a link from an add of one step to a need of another.

@@ -11,7 +11,7 @@ ghost use Rattle.methods.specs.Meaning.{method};
 
 use crate::{Entry, Method};
 use domain::Tasks;
-use page::{Answer, Side};
+use page::{Answer, Refusal, Side};
 
 /// How many needs task `t` has.
 fn count_needs(known: &Tasks, t: u8) -> u8
@@ -40,22 +40,22 @@ impl Method {
         ensures after { method self.new ≡ told (row result) (need_entry (method self.old) need (step, label)) (method self.old) }
     {
         let Some(from) = self.task_need(known, need) else {
-            return Answer::NoSuchName { field: 1 };
+            return Err(Refusal::NoSuchName { field: 1 });
         };
         if !self.has_step(step) {
-            return Answer::NoSuchName { field: 2 };
+            return Err(Refusal::NoSuchName { field: 2 });
         }
         let Some(to) = self.step_need(known, step, label) else {
-            return Answer::NoSuchName { field: 3 };
+            return Err(Refusal::NoSuchName { field: 3 });
         };
         if self.needs.has(need) {
-            return Answer::AlreadyGiven;
+            return Err(Refusal::AlreadyGiven);
         }
         if from != to {
-            return Answer::FactsDiffer;
+            return Err(Refusal::FactsDiffer);
         }
         self.needs.put(need, Entry { step, label });
-        Answer::Accepted { number: 0 }
+        Ok(0)
     }
 
     /// V: an add of the method's task goes to an add of a step of the method.
@@ -64,22 +64,22 @@ impl Method {
         ensures after { method self.new ≡ told (row result) (add_entry (method self.old) add (step, label)) (method self.old) }
     {
         let Some(from) = self.task_add(known, add) else {
-            return Answer::NoSuchName { field: 1 };
+            return Err(Refusal::NoSuchName { field: 1 });
         };
         if !self.has_step(step) {
-            return Answer::NoSuchName { field: 2 };
+            return Err(Refusal::NoSuchName { field: 2 });
         }
         let Some(to) = self.step_add(known, step, label) else {
-            return Answer::NoSuchName { field: 3 };
+            return Err(Refusal::NoSuchName { field: 3 });
         };
         if self.adds.has(add) {
-            return Answer::AlreadyGiven;
+            return Err(Refusal::AlreadyGiven);
         }
         if from != to {
-            return Answer::FactsDiffer;
+            return Err(Refusal::FactsDiffer);
         }
         self.adds.put(add, Entry { step, label });
-        Answer::Accepted { number: 0 }
+        Ok(0)
     }
 
     /// K: whether each need and each add of the method's task has its entry. Nothing changes.
@@ -87,17 +87,17 @@ impl Method {
         ensures { row result ≡ first_of (close_causes (tasks known.now) (method self.now)) 0 }
     {
         if let Some(label) = self.needs.missing(count_needs(known, self.task)) {
-            return Answer::EntryMissing {
+            return Err(Refusal::EntryMissing {
                 side: Side::Need,
                 label,
-            };
+            });
         }
         if let Some(label) = self.adds.missing(count_adds(known, self.task)) {
-            return Answer::EntryMissing {
+            return Err(Refusal::EntryMissing {
                 side: Side::Add,
                 label,
-            };
+            });
         }
-        Answer::Accepted { number: 0 }
+        Ok(0)
     }
 }

@@ -42,7 +42,7 @@ pub fn carry_out(domain: &mut Domain, command: Command) -> Answer {
         Command::RouteNeed { need, step, label } => domain.route_need(need, step, label),
         Command::RouteAdd { add, step, label } => domain.route_add(add, step, label),
         Command::CloseMethod => domain.close_method(),
-        Command::Decompose { .. } | Command::Judge | Command::Take { .. } => Answer::WrongPhase,
+        Command::Decompose { .. } | Command::Judge | Command::Take { .. } => Err(Refusal::WrongPhase),
     }
 }
 

@@ -9,10 +9,6 @@ use Rattle.page.specs.declared.answer.Row.{Row}
 pub length_digit : (n : ℕ) → n < 10 → length (decimal n) ≡ 1
 length_digit n h = ap length (decimal_digit n h)
 
--- a number has one digit more than its tenth
-pub length_step : (n : ℕ) → 10 ≤ n → n < 2 ^ 64 → length (decimal n) ≡ length (decimal (n / 10)) + 1
-length_step n h w = ap length (decimal_step n h w) ∙ length_push (decimal (n / 10)) (48 + n % 10)
-
 pub length_number : (n after : ℕ) → length (number_text n after) ≡ length (decimal n) + 1
 length_number n after = length_push (decimal n) after
 

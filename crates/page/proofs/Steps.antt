@@ -54,7 +54,3 @@ lines_step text at line next h =
 pub none_of : (ps : List Broken) (at : ℕ) → None ≡ first_line at ps → ps ≡ []
 none_of [] at h = refl
 none_of ((l, e) ∷ ps) at h = let z : ◌≡◌ {A = ℕ} 0 1 = cc in absurd (omega arith)
-
--- where it answers none, no line is left
-pub lines_none : (text : List ℕ) (at : ℕ) → None ≡ first_line at (broken (drop at text)) → lines (drop at text) ≡ []
-lines_none text at h = ap (map first) (none_of (broken (drop at text)) at h)

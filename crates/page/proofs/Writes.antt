@@ -40,13 +40,6 @@ then_byte p at xs q end b l h e =
     let long = ap length h ∙ length_written p at xs (omega arith) in
     then p at xs q end (b ∷ []) _ (omega arith) h e (written_byte q end b (omega arith))
 
-pub written_digit : (p : List ℕ) (at n : ℕ) → at < length p → n < 10 → set p at (48 + n) ≡ written p at (decimal n)
-written_digit p at n l h = written_byte p at (48 + n) l ∙ ap (written p at) (sym (decimal_digit n h))
-
--- the last digit, after a tenth of the number
-pub written_step : (p : List ℕ) (at n end : ℕ) (q : List ℕ) → at + length (decimal (n / 10)) < length p → 10 ≤ n → n < 2 ^ 64 → q ≡ written p at (decimal (n / 10)) → end ≡ at + length (decimal (n / 10)) → set q end (48 + n % 10) ≡ written p at (decimal n)
-written_step p at n end q l h w k e = then_byte p at (decimal (n / 10)) q end (48 + n % 10) l k e ∙ ap (written p at) (sym (decimal_step n h w))
-
 -- the four numbers of a row and its last byte, one after another
 pub written_row : (p : List ℕ) (at : ℕ) (w : Row) (e₁ e₂ e₃ e₄ : ℕ) (q₁ q₂ q₃ q₄ : List ℕ) → at + length (row_text w) ≤ length p
     → q₁ ≡ written p at (number_text w.code 44) → e₁ ≡ at + length (number_text w.code 44)

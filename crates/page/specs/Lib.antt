@@ -1,3 +1,4 @@
 pub mod Answers
 pub mod Rows
 pub mod Lines
+pub mod Reading

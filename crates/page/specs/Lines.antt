@@ -1,5 +1,5 @@
 -- The lines of a text, each with the break that ends it.
-use Rattle.std.specs.Prelude.{◌≡◌, ℕ, ◌+◌, ◌<◌, Bool, false, cond, ◌&&◌, ◌⊎◌, List, [], ◌∷◌, ◌++◌, map, length, Some, None, Option, ◌==◌, ◌≢◌}
+use Rattle.std.specs.Prelude.{◌≡◌, ℕ, ◌+◌, ◌<◌, Bool, false, cond, ◌&&◌, ◌⊎◌, List, [], ◌∷◌, ◌++◌, map, length, take, Some, None, Option, ◌==◌, ◌≢◌, slice_index, ◌-◌}
 use Rattle.std.specs.List.{flat_map, AllByRecursion}
 
 -- a line, and the break after it
@@ -41,6 +41,14 @@ abbrev pub ends_cr : List ℕ → Bool
 ends_cr [] = false
 ends_cr (b ∷ []) = b == 13
 ends_cr (b ∷ x ∷ l) = ends_cr (x ∷ l)
+
+-- no LF among the first n bytes
+abbrev pub NoFeed : List ℕ → ℕ → Type 0
+NoFeed bs n = (k : ℕ) → k < n → slice_index bs k ≢ 10
+
+-- a line without the CR at its end, if it ends in one
+abbrev pub without_cr : List ℕ → List ℕ
+without_cr line = cond (slice_index line (length line - 1) == 13) (take (length line - 1) line) line
 
 -- every break is LF, or CR LF, or nothing; nothing only after the last line, which is then not empty
 abbrev pub Breaks : List Broken → Type 0

@@ -1,14 +1,13 @@
 //! What a line is answered, and the row that says it.
 
-/// What a line is answered: it is accepted, or it is refused for one cause.
+/// What a line is answered: the number that its command gives back, or why the line is refused.
+pub type Answer = Result<u64, Refusal>;
+
+/// Why a line is refused.
 ///
 /// Fields, places and labels are counted from 0; field 0 is the letter, and a label is an entry's place in its list.
 #[derive(Clone, Copy, PartialEq, Eq, Debug)]
-pub enum Answer {
-    /// The line is accepted, and its command gives this number back.
-    Accepted {
-        number: u64,
-    },
+pub enum Refusal {
     /// The first byte that no line may hold stands at this place.
     BadByte {
         place: usize,

@@ -4,9 +4,11 @@
 #![tactic(auto)]
 
 mod answer;
+mod reading;
 mod row;
 mod text;
 
-pub use answer::{Answer, Row, Side};
-pub use row::has_room;
+pub use answer::{Answer, Refusal, Row, Side};
+pub use reading::Lines;
+pub use row::{has_room, write};
 pub use text::{Line, line_at, lines_are_the_text};

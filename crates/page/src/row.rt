@@ -1,10 +1,12 @@
 //! Answers as rows, and rows on a page.
-ghost use Rattle.std.specs.Prelude.{◌≡◌, ◌+◌, ◌<◌, ◌≤◌, length, if◌then◌else◌, Some, None, decimal, MatchOption, ◌==◌};
-ghost use Rattle.page.specs.Answers.{as_row, row, side_number, unread};
+ghost use Rattle.std.specs.Prelude.{◌≡◌, ◌+◌, ◌<◌, ◌≤◌, length, if◌then◌else◌, Some, None, MatchOption};
+ghost use Rattle.page.specs.Answers.{as_row, refusal_row, row, side_number, unread};
+ghost use Rattle.page.specs.declared.answer.Refusal.TheVariants as refused;
 ghost use Rattle.page.specs.Rows.{fits, number_text, row_text, written};
 
-use crate::answer::{Answer, Row, Side};
-use line::Refusal;
+use crate::answer::{Answer, Refusal, Row, Side};
+use fixed::Full;
+use itoa::Buffer;
 
 /// No row is longer than this, so where this much is free, any row can be written.
 const ROW_ROOM: usize = 28;
@@ -16,82 +18,91 @@ pub fn has_room(page: &[u8], at: usize) -> bool
     page.len().saturating_sub(at) >= ROW_ROOM
 }
 
-impl Answer {
-    /// The row that says this answer. Its text is at most 28 bytes long.
-    pub fn row(self) -> Row
-        ensures is { result ≡ row self }
-        ensures short { length (row_text result) ≤ 28 }
-    {
-        match self {
-            Answer::Accepted { number } => Row::of_number(0, number),
-            Answer::BadByte { place } => Row::of_number(1, place as u64),
-            Answer::NoLetter => Row::of_bytes(2, 0, 0, 0),
-            Answer::FieldCount { count } => Row::of_number(3, count as u64),
-            Answer::NoNumber { field } => Row::of_number(4, field as u64),
-            Answer::WrongPhase => Row::of_bytes(5, 0, 0, 0),
-            Answer::NoSuchName { field } => Row::of_bytes(6, field, 0, 0),
-            Answer::WrongKind => Row::of_bytes(7, 0, 0, 0),
-            Answer::AlreadyGiven => Row::of_bytes(8, 0, 0, 0),
-            Answer::FactsDiffer => Row::of_bytes(9, 0, 0, 0),
-            Answer::LimitPassed => Row::of_bytes(10, 0, 0, 0),
-            Answer::Circle => Row::of_bytes(11, 0, 0, 0),
-            Answer::EntryMissing { side, label } => Row::of_bytes(12, side.number(), label, 0),
-            Answer::StepWaiting { step } => Row::of_bytes(13, step, 0, 0),
-            Answer::CompoundStep { step } => Row::of_bytes(14, step, 0, 0),
-            Answer::OpenNeed { step, label } => Row::of_bytes(15, step, label, 0),
-            Answer::Threatened {
+/// Writes an answer's row at a place of the page, and answers the place after it.
+///
+/// Where fewer than 28 bytes are free from there on, it answers `None` and leaves the page as it is.
+pub fn write(answer: Answer, page: &mut [u8], at: usize) -> Option<usize>
+    ensures page { page.new ≡ (if fits page.old at then written page.old at (row_text (row answer)) else page.old) }
+    ensures place { result ≡ (if fits page.old at then Some (at + length (row_text (row answer))) else None) }
+    ensures within { MatchOption result (length page.old < at + 28) (λ end. (end ≤ at + 28) × (end ≤ length page.old)) }
+{
+    if !has_room(page, at) {
+        return None;
+    }
+    Some(put_row(page, at, Row::from(answer)))
+}
+
+/// The row that says an answer. Its text is at most 28 bytes long.
+impl From<Answer> for Row {
+    ghost from_gives = { λ answer r. (r ≡ row answer) × (length (row_text r) ≤ 28) };
+
+    fn from(answer: Answer) -> Row {
+        match answer {
+            Ok(number) => Row::of_number(0, number),
+            Err(refusal) => Row::from(refusal),
+        }
+    }
+}
+
+/// The row that says why a line is refused. Its text is at most 28 bytes long.
+impl From<Refusal> for Row {
+    ghost from_gives = { λ refusal r. (r ≡ refusal_row refusal) × (length (row_text r) ≤ 28) };
+
+    fn from(refusal: Refusal) -> Row {
+        match refusal {
+            Refusal::BadByte { place } => Row::of_number(1, place as u64),
+            Refusal::NoLetter => Row::of_bytes(2, 0, 0, 0),
+            Refusal::FieldCount { count } => Row::of_number(3, count as u64),
+            Refusal::NoNumber { field } => Row::of_number(4, field as u64),
+            Refusal::WrongPhase => Row::of_bytes(5, 0, 0, 0),
+            Refusal::NoSuchName { field } => Row::of_bytes(6, field, 0, 0),
+            Refusal::WrongKind => Row::of_bytes(7, 0, 0, 0),
+            Refusal::AlreadyGiven => Row::of_bytes(8, 0, 0, 0),
+            Refusal::FactsDiffer => Row::of_bytes(9, 0, 0, 0),
+            Refusal::LimitPassed => Row::of_bytes(10, 0, 0, 0),
+            Refusal::Circle => Row::of_bytes(11, 0, 0, 0),
+            Refusal::EntryMissing { side, label } => Row::of_bytes(12, u8::from(side), label, 0),
+            Refusal::StepWaiting { step } => Row::of_bytes(13, step, 0, 0),
+            Refusal::CompoundStep { step } => Row::of_bytes(14, step, 0, 0),
+            Refusal::OpenNeed { step, label } => Row::of_bytes(15, step, label, 0),
+            Refusal::Threatened {
                 threat,
                 producer,
                 consumer,
             } => Row::of_bytes(16, threat, producer, consumer),
         }
     }
-
-    /// Whether the line is accepted.
-    pub fn is_accepted(self) -> bool
-        ensures { result ≡ ((row self).code == 0) }
-    {
-        match self {
-            Answer::Accepted { .. } => true,
-            _ => false,
-        }
-    }
-
-    /// Writes this answer's row at a place of the page, and answers the place after it.
-    ///
-    /// Where fewer than 28 bytes are free from there on, it answers `None` and leaves the page as it is.
-    pub fn write(self, page: &mut [u8], at: usize) -> Option<usize>
-        ensures page { page.new ≡ (if fits page.old at then written page.old at (row_text (row self)) else page.old) }
-        ensures place { result ≡ (if fits page.old at then Some (at + length (row_text (row self))) else None) }
-        ensures within { MatchOption result (length page.old < at + 28) (λ end. (end ≤ at + 28) × (end ≤ length page.old)) }
-    {
-        if page.len().saturating_sub(at) < ROW_ROOM {
-            return None;
-        }
-        Some(put_row(page, at, self.row()))
-    }
 }
 
-/// A line that is no command is answered with the cause that its reading gives.
-impl From<Refusal> for Answer {
-    ghost from_gives = { λ refusal answer. answer ≡ unread refusal };
+/// A line that is no command is refused for the cause that its reading gives.
+impl From<line::Refusal> for Refusal {
+    ghost from_gives = { λ why refusal. refusal ≡ unread why };
 
-    fn from(refusal: Refusal) -> Answer {
-        match refusal {
-            Refusal::BadByte { place } => Answer::BadByte { place },
-            Refusal::NoLetter => Answer::NoLetter,
-            Refusal::FieldCount { count } => Answer::FieldCount { count },
-            Refusal::NoNumber { field } => Answer::NoNumber { field },
+    fn from(why: line::Refusal) -> Refusal {
+        match why {
+            line::Refusal::BadByte { place } => Refusal::BadByte { place },
+            line::Refusal::NoLetter => Refusal::NoLetter,
+            line::Refusal::FieldCount { count } => Refusal::FieldCount { count },
+            line::Refusal::NoNumber { field } => Refusal::NoNumber { field },
         }
     }
 }
 
-impl Side {
-    /// The number that stands for this side in a row.
-    fn number(self) -> u8
-        ensures { result ≡ side_number self }
-    {
-        match self {
+/// What finds no place in a full list would pass a limit.
+impl From<Full> for Refusal {
+    ghost from_gives = { λ full refusal. refusal ≡ refused.LimitPassed };
+
+    fn from(_full: Full) -> Refusal {
+        Refusal::LimitPassed
+    }
+}
+
+/// The number that stands for a side in a row.
+impl From<Side> for u8 {
+    ghost from_gives = { λ side n. n ≡ side_number side };
+
+    fn from(side: Side) -> u8 {
+        match side {
             Side::Need => 0,
             Side::Add => 1,
         }
@@ -127,20 +138,15 @@ impl Row {
     }
 }
 
-/// Writes the number in decimal, and answers the place after it.
-fn put_decimal(page: &mut [u8], at: usize, n: u64) -> usize
-    requires { at + length (decimal n) ≤ length page.old }
-    ensures page { page.new ≡ written page.old at (decimal n) }
-    ensures place { result ≡ at + length (decimal n) }
+/// Writes a text, and answers the place after it.
+fn put(page: &mut [u8], at: usize, text: &[u8]) -> usize
+    requires { at + length text.now ≤ length page.old }
+    ensures page { page.new ≡ written page.old at text.now }
+    ensures place { result ≡ at + length text.now }
 {
-    if n < 10 {
-        page[at] = b'0' + n as u8;
-        at + 1
-    } else {
-        let end = put_decimal(page, at, n / 10);
-        page[end] = b'0' + (n % 10) as u8;
-        end + 1
-    }
+    let end = at + text.len();
+    page[at..end].copy_from_slice(text);
+    end
 }
 
 /// Writes the number in decimal and a byte after it, and answers the place after both.
@@ -149,7 +155,8 @@ fn put_number(page: &mut [u8], at: usize, n: u64, after: u8) -> usize
     ensures page { page.new ≡ written page.old at (number_text n after) }
     ensures place { result ≡ at + length (number_text n after) }
 {
-    let end = put_decimal(page, at, n);
+    let mut digits = Buffer::new();
+    let end = put(page, at, digits.format(n).as_bytes());
     page[end] = after;
     end + 1
 }

@@ -1,7 +1,7 @@
 //! The lines of a text.
 ghost use Rattle.std.specs.Prelude.{◌≡◌, ℕ, ◌<◌, ◌≤◌, length, drop, MatchOption, ◌≢◌, slice_index};
 ghost use Rattle.std.specs.Option.{option_map};
-ghost use Rattle.page.specs.Lines.{LinesOfAText, broken, first_line};
+ghost use Rattle.page.specs.Lines.{LinesOfAText, NoFeed, broken, first_line, without_cr};
 
 /// A line of a text, without its break, and the place after the break, where the next line begins.
 #[derive(Clone, Copy)]
@@ -20,44 +20,37 @@ pub fn line_at(text: &[u8], at: usize) -> Option<Line<'_>>
     if at >= text.len() {
         return None;
     }
-    let feed = line_feed(text, at);
-    if feed == text.len() {
-        return Some(Line {
-            text: &text[at..feed],
-            next: feed,
-        });
+    let rest = &text[at..];
+    match line_feed(rest) {
+        Some(feed) => Some(Line {
+            text: without_return(&rest[..feed]),
+            next: at + feed + 1,
+        }),
+        None => Some(Line {
+            text: rest,
+            next: text.len(),
+        }),
     }
-    let next = feed + 1;
-    if feed > at && text[feed - 1] == b'\r' {
-        return Some(Line {
-            text: &text[at..feed - 1],
-            next,
-        });
-    }
-    Some(Line {
-        text: &text[at..feed],
-        next,
-    })
 }
 
-/// The place of the first LF at or after a place, or the text's length where there is none.
-fn line_feed(text: &[u8], from: usize) -> usize
-    requires { from ≤ length text.now }
-    ensures within { (from ≤ result) × (result ≤ length text.now) }
-    ensures before { (k : ℕ) → from ≤ k → k < result → slice_index text.now k ≢ 10 }
-    ensures found { result < length text.now → slice_index text.now result ≡ 10 }
+/// The place of the first LF.
+fn line_feed(text: &[u8]) -> Option<usize>
+    ensures { MatchOption result (NoFeed text.now (length text.now)) (λ i. (i < length text.now) × (slice_index text.now i ≡ 10) × NoFeed text.now i) }
 {
-    for i in from..text.len() {
-        if text[i] == b'\n' {
-            return i;
-        }
+    text.iter().position(|b| *b == b'\n')
+}
+
+/// A line without the CR at its end, if there is one: that CR belongs to the break.
+fn without_return(line: &[u8]) -> &[u8]
+    ensures { result.now ≡ without_cr line.now }
+{
+    match line {
+        [text @ .., b'\r'] => text,
+        _ => line,
     }
-    text.len()
 }
 
 /// The lines with their breaks make up the text, each line and each break has its proper shape, and no other lines do so.
-pub fn lines_are_the_text() -> u8
+pub fn lines_are_the_text()
     ensures { LinesOfAText }
-{
-    0
-}
+{}

@@ -14,7 +14,7 @@ ghost use Rattle.plan.specs.Turns.{at_step, compound, is_compound, nearer_threat
 use crate::Plan;
 use domain::Tasks;
 use order::Keeper;
-use page::Answer;
+use page::{Answer, Refusal};
 use semantics::Link;
 
 impl Plan {
@@ -168,20 +168,18 @@ impl Plan {
         ensures { row result ≡ first_of (judge_causes (tasks known.now) (plan (K.before keeper.now) self.now)) (length (steps_of (plan (K.before keeper.now) self.now))) }
     {
         if let Some(step) = self.first_compound(known) {
-            return Answer::CompoundStep { step };
+            return Err(Refusal::CompoundStep { step });
         }
         if let Some((step, label)) = self.first_open(known) {
-            return Answer::OpenNeed { step, label };
+            return Err(Refusal::OpenNeed { step, label });
         }
         match self.first_threat(keeper, known) {
-            Some((threat, link)) => Answer::Threatened {
+            Some((threat, link)) => Err(Refusal::Threatened {
                 threat,
                 producer: link.producer,
                 consumer: link.consumer,
-            },
-            None => Answer::Accepted {
-                number: self.count_steps() as u64,
-            },
+            }),
+            None => Ok(self.count_steps() as u64),
         }
     }
 }

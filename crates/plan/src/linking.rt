@@ -20,7 +20,7 @@ use crate::Plan;
 use domain::Tasks;
 use links::{bad_ends, has_room, join};
 use order::Keeper;
-use page::Answer;
+use page::{Answer, Refusal};
 use semantics::Link;
 
 /// The lower of the producer found so far and that of the link, if the link goes to need `j` of step `s`.
@@ -96,13 +96,13 @@ impl Plan {
         ensures after { plan (K.before keeper.new) self.new ≡ told (row result) (linked_in (plan (K.before keeper.old) self.old) l ordered) (plan (K.before keeper.old) self.old) }
     {
         if !has_room(&self.links, l) {
-            return Answer::LimitPassed;
+            return Err(Refusal::LimitPassed);
         }
         if !arrange(keeper, l.producer, l.consumer, ordered) {
-            return Answer::Circle;
+            return Err(Refusal::Circle);
         }
         join(&mut self.links, l);
-        Answer::Accepted { number: 0 }
+        Ok(0)
     }
 
     /// L: a link from an add of one step to a need of another. Between primitive steps the producer is before the consumer from

@@ -13,7 +13,7 @@ ghost use Rattle.order.specs.Puts.{can_put};
 use crate::Plan;
 use domain::{Tasks, is_init_or_goal};
 use order::{Keeper, Refused};
-use page::Answer;
+use page::{Answer, Refusal};
 
 /// Puts step `s` after init and before goal, where neither pair is refused.
 fn put_between<K: Keeper>(keeper: &mut K, s: u8)
@@ -30,20 +30,18 @@ impl Plan {
         ensures after { Suits K.capacity (plan (K.before keeper.old) self.old) → plan (K.before keeper.new) self.new ≡ told (row result) (plan_step (plan (K.before keeper.old) self.old) task) (plan (K.before keeper.old) self.old) }
     {
         if !known.has(task) {
-            return Answer::NoSuchName { field: 1 };
+            return Err(Refusal::NoSuchName { field: 1 });
         }
         if is_init_or_goal(task) {
-            return Answer::WrongKind;
+            return Err(Refusal::WrongKind);
         }
         let number = self.given();
         if number >= K::steps() {
-            return Answer::LimitPassed;
+            return Err(Refusal::LimitPassed);
         }
         put_between(keeper, number);
         let _ = self.steps.push(Some(task));
-        Answer::Accepted {
-            number: number as u64,
-        }
+        Ok(number as u64)
     }
 
     /// O: one step before another, with all that follows. The plan has no more step numbers than the keeper.
@@ -52,14 +50,14 @@ impl Plan {
         ensures after { K.before keeper.new ≡ told (row result) (put (K.before keeper.old) earlier later) (K.before keeper.old) }
     {
         if !self.is_step(earlier) {
-            return Answer::NoSuchName { field: 1 };
+            return Err(Refusal::NoSuchName { field: 1 });
         }
         if !self.is_step(later) {
-            return Answer::NoSuchName { field: 2 };
+            return Err(Refusal::NoSuchName { field: 2 });
         }
         match keeper.put(earlier, later) {
-            Ok(()) => Answer::Accepted { number: 0 },
-            Err(Refused) => Answer::Circle,
+            Ok(()) => Ok(0),
+            Err(Refused) => Err(Refusal::Circle),
         }
     }
 }

@@ -18,7 +18,7 @@ use crate::{Plan, Progress};
 use domain::{Task, Tasks};
 use masks::{marked, only};
 use order::Keeper;
-use page::Answer;
+use page::{Answer, Refusal};
 
 /// The facts after a task is carried out: its deletes are removed, then its adds join.
 fn facts_after(done: &Task, facts: u64) -> u64
@@ -85,18 +85,16 @@ impl Plan {
         ensures { (taken : List ℕ) → Follows (tasks known.now) (plan (K.before keeper.now) self.now) taken progress.old → Took (tasks known.now) (plan (K.before keeper.now) self.now) taken s (row result) progress.new }
     {
         if s >= self.given() || !self.is_step(s) {
-            return Answer::NoSuchName { field: 1 };
+            return Err(Refusal::NoSuchName { field: 1 });
         }
         if marked(progress.taken, s) {
-            return Answer::AlreadyGiven;
+            return Err(Refusal::AlreadyGiven);
         }
         if let Some(step) = self.first_behind(keeper, progress.taken, s) {
-            return Answer::StepWaiting { step };
+            return Err(Refusal::StepWaiting { step });
         }
         progress.taken |= only(s);
         progress.facts = self.facts_then(known, progress.facts, s);
-        Answer::Accepted {
-            number: progress.facts,
-        }
+        Ok(progress.facts)
     }
 }

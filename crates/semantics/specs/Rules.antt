@@ -5,7 +5,7 @@ use Rattle.line.specs.Parse.{parsed}
 use Rattle.line.specs.declared.command.Command.{Command}
 use Rattle.line.specs.declared.command.Command.TheVariants.{AppendAdd, AppendDelete, AppendNeed, CloseMethod, Decompose, EndPhase, Judge, NewCompound, NewPrimitive, NewStep, OpenMethod, PutLink, PutOrder, RouteAdd, RouteNeed, Take}
 use Rattle.line.specs.declared.command.Refusal.{Refusal}
-use Rattle.page.specs.Answers.{row, unread}
+use Rattle.page.specs.Answers.{refusal_row, unread}
 use Rattle.page.specs.Lines.{lines}
 use Rattle.page.specs.declared.answer.Row.{Row}
 use Rattle.semantics.specs.Causes.{Cause, first_of, when}
@@ -108,7 +108,7 @@ verdict capacity st c = first_of (causes capacity st c) (number_told st c)
 -- the row of what a line was read as; a line that is no command has one of the causes 1 to 4
 abbrev pub row_for : ℕ → State → Result Command Refusal → Row
 row_for capacity st (Ok c) = verdict capacity st c
-row_for capacity st (Err e) = row (unread e)
+row_for capacity st (Err e) = refusal_row (unread e)
 
 -- an accepted command changes the state, and any other line leaves it as it was
 abbrev pub state_for : State → Result Command Refusal → ℕ → State

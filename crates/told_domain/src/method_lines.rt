@@ -11,7 +11,7 @@ ghost use Rattle.told_domain.specs.Domains.{in_phase, parts, with_draft, with_me
 use crate::Domain;
 use crate::opening::is_accepted;
 use methods::Method;
-use page::Answer;
+use page::{Answer, Refusal};
 use semantics::{Link, Phase};
 
 /// There are at most this many methods.
@@ -24,23 +24,21 @@ impl Domain {
         ensures after { parts self.new ≡ told (row result) (in_phase at.MethodOpen (with_draft (blank task) (parts self.old))) (parts self.old) }
     {
         if self.is_outside(Phase::Methods) {
-            return Answer::WrongPhase;
+            return Err(Refusal::WrongPhase);
         }
         let Some(entry) = self.known.task(task) else {
-            return Answer::NoSuchName { field: 1 };
+            return Err(Refusal::NoSuchName { field: 1 });
         };
         if entry.is_primitive() {
-            return Answer::WrongKind;
+            return Err(Refusal::WrongKind);
         }
         let number = self.list.len();
         if number >= MOST_METHODS {
-            return Answer::LimitPassed;
+            return Err(Refusal::LimitPassed);
         }
         self.draft = Method::blank(task);
         self.phase = Phase::MethodOpen;
-        Answer::Accepted {
-            number: number as u64,
-        }
+        Ok(number as u64)
     }
 
     /// S while a method is open: a new step of a task. Its number in the method is the answer.
@@ -51,7 +49,7 @@ impl Domain {
         ensures after { parts self.new ≡ told (row result) (with_draft (step_of (parts self.old).draft task) (parts self.old)) (parts self.old) }
     {
         if self.is_outside(Phase::MethodOpen) {
-            return Answer::WrongPhase;
+            return Err(Refusal::WrongPhase);
         }
         self.draft.step(&self.known, task)
     }
@@ -64,7 +62,7 @@ impl Domain {
         ensures after { parts self.new ≡ told (row result) (with_draft (order_of (parts self.old).draft earlier later) (parts self.old)) (parts self.old) }
     {
         if self.is_outside(Phase::MethodOpen) {
-            return Answer::WrongPhase;
+            return Err(Refusal::WrongPhase);
         }
         self.draft.order(earlier, later)
     }
@@ -77,7 +75,7 @@ impl Domain {
         ensures after { parts self.new ≡ told (row result) (with_draft (link_of (parts self.old).tasks (parts self.old).draft link) (parts self.old)) (parts self.old) }
     {
         if self.is_outside(Phase::MethodOpen) {
-            return Answer::WrongPhase;
+            return Err(Refusal::WrongPhase);
         }
         self.draft.link(&self.known, link)
     }
@@ -88,7 +86,7 @@ impl Domain {
         ensures after { parts self.new ≡ told (row result) (with_draft (need_entry (parts self.old).draft need (step, label)) (parts self.old)) (parts self.old) }
     {
         if self.is_outside(Phase::MethodOpen) {
-            return Answer::WrongPhase;
+            return Err(Refusal::WrongPhase);
         }
         self.draft.route_need(&self.known, need, step, label)
     }
@@ -99,7 +97,7 @@ impl Domain {
         ensures after { parts self.new ≡ told (row result) (with_draft (add_entry (parts self.old).draft add (step, label)) (parts self.old)) (parts self.old) }
     {
         if self.is_outside(Phase::MethodOpen) {
-            return Answer::WrongPhase;
+            return Err(Refusal::WrongPhase);
         }
         self.draft.route_add(&self.known, add, step, label)
     }
@@ -110,7 +108,7 @@ impl Domain {
         ensures after { parts self.new ≡ told (row result) (in_phase at.Methods (with_methods ((parts self.old).methods ++ ((parts self.old).draft ∷ [])) (parts self.old))) (parts self.old) }
     {
         if self.is_outside(Phase::MethodOpen) {
-            return Answer::WrongPhase;
+            return Err(Refusal::WrongPhase);
         }
         let answer = self.draft.close(&self.known);
         if is_accepted(answer) {

@@ -8,7 +8,7 @@ ghost use Rattle.semantics.specs.declared.phase.Phase.TheVariants as at;
 ghost use Rattle.told_domain.specs.Domains.{in_phase, parts, started};
 
 use crate::Domain;
-use page::Answer;
+use page::{Answer, Refusal};
 use semantics::Phase;
 
 /// The phase that E moves to, if the phase has that letter.
@@ -46,10 +46,10 @@ impl Domain {
         ensures after { parts self.new ≡ told (row result) (in_phase (ended (parts self.old).phase) (parts self.old)) (parts self.old) }
     {
         let Some(phase) = phase_after(self.phase) else {
-            return Answer::WrongPhase;
+            return Err(Refusal::WrongPhase);
         };
         self.phase = phase;
-        Answer::Accepted { number: 0 }
+        Ok(0)
     }
 
     /// The plan is accepted: phase refine becomes phase running. In any other phase nothing changes.

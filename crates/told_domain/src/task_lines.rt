@@ -12,7 +12,7 @@ ghost use Rattle.told_domain.specs.Domains.{parts, with_tasks};
 
 use crate::Domain;
 use domain::Kind;
-use page::Answer;
+use page::{Answer, Refusal};
 use semantics::Phase;
 
 impl Domain {
@@ -22,7 +22,7 @@ impl Domain {
         ensures after { parts self.new ≡ told (row result) (with_tasks (tasks_with_task (is_primitive_kind kind) (parts self.old).tasks) (parts self.old)) (parts self.old) }
     {
         if self.is_outside(Phase::Tasks) {
-            return Answer::WrongPhase;
+            return Err(Refusal::WrongPhase);
         }
         self.known.new_task(kind)
     }
@@ -33,7 +33,7 @@ impl Domain {
         ensures after { parts self.new ≡ told (row result) (with_tasks (tasks_with_need task fact (parts self.old).tasks) (parts self.old)) (parts self.old) }
     {
         if self.is_outside(Phase::Tasks) {
-            return Answer::WrongPhase;
+            return Err(Refusal::WrongPhase);
         }
         self.known.append_need(task, fact)
     }
@@ -44,7 +44,7 @@ impl Domain {
         ensures after { parts self.new ≡ told (row result) (with_tasks (tasks_with_add task fact (parts self.old).tasks) (parts self.old)) (parts self.old) }
     {
         if self.is_outside(Phase::Tasks) {
-            return Answer::WrongPhase;
+            return Err(Refusal::WrongPhase);
         }
         self.known.append_add(task, fact)
     }
@@ -55,7 +55,7 @@ impl Domain {
         ensures after { parts self.new ≡ told (row result) (with_tasks (tasks_with_delete task fact (parts self.old).tasks) (parts self.old)) (parts self.old) }
     {
         if self.is_outside(Phase::Tasks) {
-            return Answer::WrongPhase;
+            return Err(Refusal::WrongPhase);
         }
         self.known.append_delete(task, fact)
     }

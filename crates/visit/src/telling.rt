@@ -13,7 +13,7 @@ ghost use Rattle.visit.specs.Sessions.{answer_row, before_plan, command_after, c
 use crate::session::{Reply, Session};
 use domain::Kind;
 use line::{Command, parse};
-use page::Answer;
+use page::{Answer, Refusal};
 use semantics::{Link, Phase};
 use told_domain::Domain;
 
@@ -98,7 +98,7 @@ impl Session {
             Command::RouteNeed { need, step, label } => self.domain.route_need(need, step, label),
             Command::RouteAdd { add, step, label } => self.domain.route_add(add, step, label),
             Command::CloseMethod => self.domain.close_method(),
-            Command::Decompose { .. } | Command::Judge | Command::Take { .. } => Answer::WrongPhase,
+            Command::Decompose { .. } | Command::Judge | Command::Take { .. } => Err(Refusal::WrongPhase),
         }
     }
 }

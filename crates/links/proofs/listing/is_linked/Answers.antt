@@ -1,23 +1,17 @@
-use Rattle.std.proofs.Common.{◌≡◌, suc, ◌+◌, arith, drop-cons}
-use Rattle.std.proofs.lemmas.List.{drop_all}
+use Rattle.std.proofs.Common.{◌≡◌, ◌||◌, List, [], ◌∷◌, refl, ◌∙◌, arith}
+use Rattle.std.proofs.lemmas.Bool.Decides.{nat_tests}
+use Rattle.std.specs.List.{list_any}
+use Rattle.semantics.specs.Plans.{has_link, same_link}
 use Rattle.semantics.specs.declared.link.Link.{Link}
+use Rattle.semantics.specs.contracts.link.LinkPartialEq.TheImpl.{ghosts}
 use Rattle.links.proofs.listing.is_linked.Goals as goal
 
-abbrev nothing : Link
-nothing = record { producer = 0; add = 0; consumer = 0; need = 0 }
+same : (k l : Link) → ghosts.eq k l ≡ same_link l k
+same k l = grind (arith, nat_tests)
 
-pub returns-then-is_same : goal.returns-then-is_same
-returns-then-is_same c =
-    let d = drop-cons c.args.links.now c.loop-k.k-index nothing c.loop-k-test.true in
-    grind (arith, c.loop-k.invariant, d, c.if-is_same.ensures)
-
-pub loop-k-preserved : goal.loop-k-preserved
-loop-k-preserved c =
-    let d = drop-cons c.args.links.now c.loop-k.k-index nothing c.loop-k-test.true in
-    let e : suc c.loop-k.k-index ≡ c.loop-k.k-index + 1 = omega arith in
-    grind (arith, c.loop-k.invariant, d, e, c.if-is_same.ensures)
+any_same : (l : Link) (ks : List Link) → list_any (λ k. ghosts.eq k l) ks ≡ has_link l ks
+any_same l [] = refl
+any_same l (k ∷ ks) = (λ i. same k l i || any_same l ks i)
 
 pub returns : goal.returns
-returns c =
-    let d = drop_all c.loop-k.k-index c.args.links.now c.loop-k-test.false in
-    grind (arith, c.loop-k.invariant, d)
+returns c = c.contains.ensures.value ∙ any_same c.args.l c.args.links.now

@@ -9,6 +9,15 @@ use Rattle.domain.proofs.facts.FactList.push.Goals as goal
 pub invariant_of-self : goal.invariant_of-self
 invariant_of-self c =
     let self = c.args.self.now in
+    let kept : items c.push.new.self ≡ items self.list = search rules in
+    record {
+      small = λ g h. let s = self.small g in grind (arith, kept);
+      marked = λ g. let s = self.marked g in grind (arith, kept);
+    }
+
+pub invariant_of-self-2 : goal.invariant_of-self-2
+invariant_of-self-2 c =
+    let self = c.args.self.now in
     let fact = c.args.fact in
     let more : items c.push.new.self ≡ items self.list ++ (fact ∷ []) = search rules in
     let joined : (g : ℕ) → bit (bit_or self.mask c.only.result) g ≡ (bit self.mask g || eqb fact g) =
