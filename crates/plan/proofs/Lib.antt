@@ -1,5 +1,5 @@
-mod Downs
+mod Lowest
 mod Ups
-mod Puts
+mod Present
 mod Sums
 mod Takes
