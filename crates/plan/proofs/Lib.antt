@@ -1,3 +1,4 @@
+mod Finds
 mod Lowest
 mod Ups
 mod Present

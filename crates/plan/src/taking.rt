@@ -44,28 +44,11 @@ impl Plan {
             .map_or(facts, |done| facts_after(done, facts))
     }
 
-    /// The step, if it is present, before step `s`, and not yet taken.
-    fn behind_at<K: Keeper>(&self, keeper: &K, taken: u64, s: u8, x: u8) -> Option<u8>
-        ensures { result ≡ at_step (given_steps self.now.steps) (λ y. (if is_behind (K.before keeper.now) taken s y then Some y else None)) x }
-    {
-        self.task_number(x)?;
-        if keeper.before(x, s) && !marked(taken, x) {
-            Some(x)
-        } else {
-            None
-        }
-    }
-
     /// The lowest step before step `s` that is not yet taken.
     fn first_behind<K: Keeper>(&self, keeper: &K, taken: u64, s: u8) -> Option<u8>
         ensures { result ≡ first_such (is_behind (K.before keeper.now) taken s) (present_from 0 (given_steps self.now.steps)) }
     {
-        for x in 0..self.given() {
-            if let Some(found) = self.behind_at(keeper, taken, s, x) {
-                return Some(found);
-            }
-        }
-        None
+        (0..self.given()).find(|x| self.is_step(*x) && keeper.before(*x, s) && !marked(taken, *x))
     }
 
     /// R: takes a step, by order alone. The facts just after are the answer. A refused step leaves the progress as it was.
