@@ -3,6 +3,7 @@ use Rattle.std.proofs.Common.{◌≡◌, ℕ, zero, suc, ◌+◌, ◌-◌, ◌<�
 use mathlib.Core.Bool.{false≢true}
 use Rattle.std.specs.List.{slice_get}
 use Rattle.std.proofs.lemmas.List.{at_drop_more}
+use Rattle.std.proofs.lemmas.Option.{slice_get-get_or}
 use Rattle.semantics.specs.Causes.{first_such, first_found, also, is_some}
 use Rattle.semantics.specs.PlanLines.{producer}
 use Rattle.semantics.specs.declared.link.Link.{Link}
@@ -34,11 +35,6 @@ seeks_found {Y} find = record { none = refl; more = λ x xs. at (find x) x (firs
     at None x o = refl
     at (Some y) x o = refl
 
-nth_get_or : (os : List (Option ℕ)) (i : ℕ) → i < length os → slice_get os i ≡ Some (get_or os i None)
-nth_get_or [] i h = absurd (omega arith)
-nth_get_or (o ∷ os) zero h = refl
-nth_get_or (o ∷ os) (suc i) h = nth_get_or os i (omega arith)
-
 -- what is found from step i on
 abbrev pub From : {Y : Type 0} → (List ℕ → Option Y) → List (Option ℕ) → ℕ → Option Y
 From F os i = F (present_from i (drop i os))
@@ -47,7 +43,7 @@ module _ {Y : Type 0} (F : List ℕ → Option Y) (find : ℕ → Option Y) (s :
   one : (i : ℕ) → i < length os → From F os i ≡ or_find (at_step os find i) (From F os (i + 1))
   one i h =
       let e : From F os i ≡ F (present_from i (get_or os i None ∷ drop (i + 1) os)) = at_drop_more (λ xs. F (present_from i xs)) os i None h in
-      e ∙ at (get_or os i None) (drop (i + 1) os) ∙ ap (λ o. or_find (if_present o (find i)) (From F os (i + 1))) (sym (nth_get_or os i h))
+      e ∙ at (get_or os i None) (drop (i + 1) os) ∙ ap (λ o. or_find (if_present o (find i)) (From F os (i + 1))) (sym (slice_get-get_or os i None h))
     where
       at : (o : Option ℕ) (rest : List (Option ℕ)) → F (present_from i (o ∷ rest)) ≡ or_find (if_present (Some o) (find i)) (F (present_from (i + 1) rest))
       at None rest = ap (λ k. F (present_from k rest)) (sym (add-one i))
