@@ -1,9 +1,9 @@
 -- Loops that go up the steps of a plan, or up the labels of a list, until something is found.
-use Rattle.std.proofs.Common.{◌≡◌, ℕ, zero, suc, ◌+◌, ◌-◌, ◌<◌, ◌≤◌, Bool, true, false, cond, not, List, [], ◌∷◌, length, get_or, drop, is_some as option_is_some, Some, None, Option, sym, refl, ap, ◌∙◌, zero-add, add-one, arith}
+use Rattle.std.proofs.Common.{◌≡◌, ℕ, zero, suc, ◌+◌, ◌-◌, ◌<◌, ◌≤◌, Bool, true, false, cond, not, List, [], ◌∷◌, length, get_or, drop, is_some as option_is_some, Some, None, Option, sym, refl, ap, ◌∙◌, zero-add, add-one, arith, is_some}
 use mathlib.Core.Bool.{false≢true}
 use Rattle.std.specs.List.{slice_get}
 use Rattle.std.proofs.lemmas.List.{at_drop_more, at_drop_all}
-use Rattle.semantics.specs.Causes.{first_such, first_found, also, is_some}
+use Rattle.semantics.specs.Causes.{first_such, first_found, also}
 use Rattle.semantics.specs.PlanLines.{producer}
 use Rattle.semantics.specs.declared.link.Link.{Link}
 use Rattle.semantics.specs.Decomposing.{upfrom}
