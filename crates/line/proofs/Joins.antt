@@ -1,9 +1,10 @@
 -- The fields are the parts of the line between its commas.
 use Rattle.std.proofs.Common.{◌≡◌, ℕ, zero, suc, ◌<◌, eqb, List, [], ◌∷◌, length, get_or, sym, refl, ap, ◌∙◌, subst, ⊎_elim, arith}
 use Rattle.std.proofs.lemmas.Bool.{cases_Bool, cond-true, cond-false, eqb-true, eqb-false}
-use Rattle.line.specs.Fields.{on_first, fields, joined, NoComma}
+use Rattle.std.specs.List.{onto_first}
+use Rattle.line.specs.Fields.{fields, joined, NoComma}
 
-join_first : (b : ℕ) (fs : List (List ℕ)) → joined (on_first b fs) ≡ b ∷ joined fs
+join_first : (b : ℕ) (fs : List (List ℕ)) → joined (onto_first b fs) ≡ b ∷ joined fs
 join_first b [] = refl
 join_first b (f ∷ []) = refl
 join_first b (f ∷ g ∷ fs) = refl
@@ -13,7 +14,7 @@ join_comma : (fs : List (List ℕ)) → 0 < length fs → joined ([] ∷ fs) ≡
 join_comma [] h = absurd (omega arith)
 join_comma (f ∷ fs) h = refl
 
-first_some : (b : ℕ) (fs : List (List ℕ)) → 0 < length (on_first b fs)
+first_some : (b : ℕ) (fs : List (List ℕ)) → 0 < length (onto_first b fs)
 first_some b [] = omega arith
 first_some b (f ∷ fs) = omega arith
 
@@ -36,7 +37,7 @@ no_comma_more : (b : ℕ) (f : List ℕ) → (b ≡ 44 → ⊥) → NoComma f (l
 no_comma_more b f n h zero l = n
 no_comma_more b f n h (suc k) l = h k (omega arith)
 
-apart_first : (b : ℕ) (fs : List (List ℕ)) → (b ≡ 44 → ⊥) → Apart fs → Apart (on_first b fs)
+apart_first : (b : ℕ) (fs : List (List ℕ)) → (b ≡ 44 → ⊥) → Apart fs → Apart (onto_first b fs)
 apart_first b [] n h zero = no_comma_more b [] n (λ k l. absurd (omega arith))
 apart_first b [] n h (suc i) = λ k l. absurd (omega arith)
 apart_first b (f ∷ fs) n h zero = no_comma_more b f n (h 0)
