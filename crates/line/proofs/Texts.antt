@@ -17,7 +17,8 @@ use Rattle.line.specs.declared.command.Command.{Command}
 use Rattle.line.specs.declared.command.Command.TheVariants.{NewPrimitive, NewCompound, AppendNeed, AppendAdd, AppendDelete, EndPhase, OpenMethod, NewStep, PutOrder, PutLink, RouteNeed, RouteAdd, CloseMethod, Decompose, Judge, Take}
 use Rattle.line.specs.declared.command.Refusal.{Refusal}
 use Rattle.line.specs.declared.command.Refusal.TheVariants.{BadByte, NoLetter, FieldCount, NoNumber}
-use Rattle.line.proofs.Decimals.{digits, passes, value_of, small, only}
+use Rattle.line.proofs.Decimals.{digits, passes, value_of, only}
+use Rattle.line.proofs.Digits.{small}
 use Rattle.line.proofs.Joins.{whole}
 
 -- ---- from a command to its text and back

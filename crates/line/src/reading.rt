@@ -33,7 +33,7 @@ impl<'a> Fields<'a> {
         }
     }
 
-    /// The fields after a line's letter, where the rest is what stands after the comma that follows the letter.
+    /// The fields after a line's letter, from what stands after the letter's comma, if it has one.
     pub(super) fn after_letter(rest: Option<&'a [u8]>) -> Fields<'a>
         ensures fields { left result.rest ≡ placed 1 (fields_left rest.entry) }
         ensures place { IfSome result.rest (λ r. r.0 ≡ 1) }
@@ -62,9 +62,8 @@ impl<'a> Iterator for Fields<'a> {
     fn next(&mut self) -> Option<Field<'a>> {
         let (place, line) = self.rest?;
         let (text, after) = cut(line);
-        let later = place + 1;
         *self = Fields {
-            rest: after.map(|rest| (later, rest)),
+            rest: after.map(|rest| (place + 1, rest)),
         };
         Some(Field { place, text })
     }
