@@ -2,6 +2,7 @@
 use Rattle.std.proofs.Common.{◌≡◌, ℕ, ◌+◌, ◌-◌, ◌<◌, ◌≤◌, Bool, true, false, cond, List, [], ◌∷◌, ◌++◌, length, get_or, take, drop, set, replicate, Some, None, Ok, Err, Result, sym, refl, ap, ◌∙◌, append_assoc, append-nil, arith, length-set}
 use Rattle.std.proofs.lemmas.List.{take_more_set, take_all, length-replicate}
 use Rattle.std.proofs.lemmas.Bool.{cond-true, cond-false, eq-eqb, ne_eqb}
+use Rattle.std.proofs.lemmas.Option.{cond_some, none-some}
 use Rattle.line.specs.Fields.{placed}
 use Rattle.line.specs.Numbers.{is_number, value}
 use Rattle.line.specs.Parse.{onto, numbers, counted}
@@ -58,14 +59,10 @@ first place (t ∷ ts) at text us e =
     let head : (place, t) ≡ (at, text) = ap (λ x. get_or x 0 (at, text)) e in
     record { later = ts; is = ap (λ x. x.1 ∷ ts) head; here = ap (λ x. x.0) (sym head); next = ap (drop 1) (sym e) }
 
--- a text that tells v is a number with that value, and one that tells none is no number
-told_value : (t : List ℕ) (v : ℕ) (b : Bool) → b ≡ is_number t → Some v ≡ cond b (Some (value t)) None → (b ≡ true) × (v ≡ value t)
-told_value t v true e h = (refl, let z : Some v ≡ Some (value t) = h in cc)
-told_value t v false e h = absurd (let z : Some v ≡ None = h in let w : ◌≡◌ {A = ℕ} 0 1 = cc in omega arith)
-
-told_none : (t : List ℕ) (b : Bool) → b ≡ is_number t → None ≡ cond b (Some (value t)) None → b ≡ false
-told_none t true e h = absurd (let z : None ≡ Some (value t) = h in let w : ◌≡◌ {A = ℕ} 0 1 = cc in omega arith)
-told_none t false e h = refl
+-- a text that tells none is no number
+told_none : (t : List ℕ) (b : Bool) → None ≡ cond b (Some (value t)) None → b ≡ false
+told_none t true h = absurd (none-some (value t) h)
+told_none t false h = refl
 
 module _ {ts : List (List ℕ)} {ns : List ℕ} {us vs : List (ℕ × List ℕ)} {n : ℕ} (s : Sofar ts ns us n) (at : ℕ) (t : List ℕ) (e : us ≡ (at, t) ∷ vs) where
   f : First s.place s.others at t vs
@@ -77,11 +74,11 @@ module _ {ts : List (List ℕ)} {ns : List ℕ} {us vs : List (ℕ × List ℕ)}
   pub turn : (v : ℕ) → Told t (Some v) → Sofar ts (set ns (at - 1) v) vs n
   turn v h =
       let l = ap length f.is in
-      let told = told_value t v (is_number t) refl h in
+      let told = cond_some (is_number t) (value t) v (sym h) in
       let i : s.place - 1 + 1 ≡ s.place + 1 - 1 = omega (arith, s.begun) in
       let j : at - 1 ≡ s.place - 1 = omega (arith, f.here) in
       let more : take (s.place - 1 + 1) (set ns (s.place - 1) v) ≡ take (s.place - 1) ns ++ v ∷ [] = take_more_set ns (s.place - 1) v (omega (arith, s.long, s.room)) in
-      let read : numbers s.place s.others ≡ onto v (numbers (s.place + 1) f.later) = ap (numbers s.place) f.is ∙ cond-true _ _ _ told.0 ∙ ap (λ x. onto x (numbers (s.place + 1) f.later)) (sym told.1) in
+      let read : numbers s.place s.others ≡ onto v (numbers (s.place + 1) f.later) = ap (numbers s.place) f.is ∙ cond-true _ _ _ told.0 ∙ ap (λ x. onto x (numbers (s.place + 1) f.later)) told.1 in
       record {
         place = s.place + 1;
         others = f.later;
@@ -96,7 +93,7 @@ module _ {ts : List (List ℕ)} {ns : List ℕ} {us vs : List (ℕ × List ℕ)}
 
   pub stop : Told t None → Err (NoNumber at) ≡ numbers 1 ts
   stop h =
-      let read : numbers s.place s.others ≡ Err (NoNumber s.place) = ap (numbers s.place) f.is ∙ cond-false _ _ _ (told_none t (is_number t) refl h) in
+      let read : numbers s.place s.others ≡ Err (NoNumber s.place) = ap (numbers s.place) f.is ∙ cond-false _ _ _ (told_none t (is_number t) h) in
       ap (λ x. Err (NoNumber x)) f.here ∙ sym (s.is ∙ ap (front (take (s.place - 1) ns)) read)
 
 pub all_read : {ts : List (List ℕ)} {ns : List ℕ} {us : List (ℕ × List ℕ)} {n : ℕ} → Sofar ts ns us n → us ≡ [] → Ok ns ≡ numbers 1 ts

@@ -1,7 +1,7 @@
 -- The fields of a line.
-use Rattle.std.specs.Prelude.{◌≡◌, ℕ, ◌+◌, ◌<◌, List, [], ◌∷◌, ◌++◌, length, Some, None, Option, ◌==◌, ◌≢◌, slice_index, slice_index_or}
+use Rattle.std.specs.Prelude.{◌≡◌, ℕ, ◌+◌, ◌<◌, List, [], ◌∷◌, length, Some, None, Option, ◌==◌, ◌≢◌, slice_index, slice_index_or}
 use Rattle.std.specs.Borrow.{Bor}
-use Rattle.std.specs.List.{slice_split}
+use Rattle.std.specs.List.{slice_split, join_with_byte}
 
 -- the parts between the commas: one more than there are commas
 abbrev pub fields : List ℕ → List (List ℕ)
@@ -28,9 +28,7 @@ NoComma bs n = (k : ℕ) → k < n → slice_index bs k ≢ 44
 
 -- fields with a comma between each and the next
 abbrev pub joined : List (List ℕ) → List ℕ
-joined [] = []
-joined (f ∷ []) = f
-joined (f ∷ g ∷ fs) = f ++ (44 ∷ joined (g ∷ fs))
+joined fs = join_with_byte 44 fs
 
 -- The fields are the parts of the line: joined by commas they are the line, and none holds a comma.
 pub record Parts : Type 0 where

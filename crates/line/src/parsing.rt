@@ -11,7 +11,7 @@ use crate::{Command, Fields, Refusal};
 fn is_plain(b: u8) -> bool
     ensures { result ≡ plain b }
 {
-    (b >= 0x20) & ((b <= 0x7E) & (b != b'"'))
+    (0x20..=0x7E).contains(&b) && b != b'"'
 }
 
 /// The place of the first byte that no line may hold.
@@ -49,6 +49,7 @@ fn alone(rest: Option<&[u8]>, command: Command) -> Result<Command, Refusal>
 fn command_of(letter: char, rest: Option<&[u8]>) -> Result<Command, Refusal>
     ensures { result ≡ of_kind (kind_of kinds letter) (fields_left rest.entry) }
 {
+    // tried: `numbers::<2>(rest).map(|[task, fact]| ..)`; a proof learns nothing of a closure that takes an array apart
     match letter {
         'P' => alone(rest, Command::NewPrimitive),
         'C' => alone(rest, Command::NewCompound),
