@@ -103,15 +103,13 @@ all_read {ts} {ns} {us} {n} s e = none s.others (sym s.left ∙ e) s.room s.is
     none [] h r i = sym (i ∙ ap Ok (append-nil _ ∙ take_all (s.place - 1) ns (omega (arith, s.long, r))))
     none (v ∷ vs) h r i = absurd (omega (arith, ap length h))
 
--- the count comes first
-pub count_agrees : (ts : List (List ℕ)) (n : ℕ) (r : Result (List ℕ) Refusal) → length ts ≡ n → r ≡ numbers 1 ts → r ≡ counted n ts
-count_agrees ts n r h e = e ∙ sym (cond-true _ _ _ (eq-eqb _ _ h))
+-- the count comes first: m is how many fields a reader has left, and n how many are wanted
+module _ (ts : List (List ℕ)) {us : List (ℕ × List ℕ)} (e : us ≡ placed 1 ts) {m : ℕ} (l : m ≡ length us) where
+  same : m ≡ length ts
+  same = omega (arith, l, ap length e, length-placed 1 ts)
 
-module _ (ts : List (List ℕ)) (us : List (ℕ × List ℕ)) (e : us ≡ placed 1 ts) (m n : ℕ) (l : m ≡ length us) where
-  pub reader_agrees : m ≡ n → length ts ≡ n
-  reader_agrees h = omega (arith, l, h, ap length e, length-placed 1 ts)
+  pub count_agrees : {n : ℕ} {r : Result (List ℕ) Refusal} → m ≡ n → r ≡ numbers 1 ts → r ≡ counted n ts
+  count_agrees h e = e ∙ sym (cond-true _ _ _ (eq-eqb _ _ (sym same ∙ h)))
 
-  pub reader_differs : (m ≡ n → ⊥) → Err (FieldCount (m + 1)) ≡ counted n ts
-  reader_differs h =
-      let same : m ≡ length ts = omega (arith, l, ap length e, length-placed 1 ts) in
-      sym (cond-false _ _ _ (ne_eqb _ _ (λ x. h (same ∙ x))) ∙ ap (λ x. Err (FieldCount (x + 1))) (sym same))
+  pub count_differs : {n : ℕ} → (m ≡ n → ⊥) → Err (FieldCount (m + 1)) ≡ counted n ts
+  count_differs h = sym (cond-false _ _ _ (ne_eqb _ _ (λ x. h (same ∙ x))) ∙ ap (λ x. Err (FieldCount (x + 1))) (sym same))
