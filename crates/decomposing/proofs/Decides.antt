@@ -1,5 +1,5 @@
 -- The row of X, cause by cause, and the plan after it.
-use Rattle.std.proofs.Common.{◌≡◌, ℕ, zero, suc, ◌+◌, ◌-◌, ◌≤◌, Bool, true, false, cond, not, ◌||◌, eqb, ltb, List, [], ◌∷◌, ◌++◌, map, length, Some, None, Option, sym, refl, ap, ◌∙◌, arith}
+use Rattle.std.proofs.Common.{◌≡◌, ℕ, zero, suc, ◌+◌, ◌-◌, ◌≤◌, Bool, true, false, cond, not, ◌||◌, eqb, ltb, List, [], ◌∷◌, ◌++◌, map, length, Some, None, Option, sym, refl, ap, ◌∙◌, arith, is_some}
 use Rattle.std.proofs.lemmas.List.{length-take-le}
 use Rattle.std.proofs.lemmas.Bool.{eq-eqb, le-ltb, lt-ltb, ltb-false, ne_eqb, or_parts}
 use Rattle.std.specs.List.{slice_get}
@@ -10,7 +10,7 @@ use Rattle.order.proofs.Tries.{all_tries}
 use Rattle.page.specs.Answers.{as_row}
 use Rattle.page.specs.declared.answer.Row.{Row}
 use Rattle.plan.specs.Meaning.{present}
-use Rattle.semantics.specs.Causes.{first_of, is_some, nameless, or_else, when}
+use Rattle.semantics.specs.Causes.{first_of, nameless, or_else, when}
 use Rattle.semantics.specs.Closures.{try_all}
 use Rattle.semantics.specs.Decomposing.{decompose_step, link_pairs, links_after, new_pairs, pairs_of, passed_down, plan_with, renumbered, shifted, steps_after, upfrom}
 use Rattle.semantics.specs.Methods.{Method}

@@ -1,39 +1,15 @@
 -- Numbers read one by one.
-use Rattle.std.proofs.Common.{◌≡◌, ℕ, ◌+◌, ◌-◌, ◌≤◌, Bool, true, false, cond, List, [], ◌∷◌, ◌++◌, length, take, set, replicate, Some, None, Ok, Err, Option, Result, sym, refl, ap, ◌∙◌, append_assoc, append-nil, arith, length-set}
+use Rattle.std.proofs.Common.{◌≡◌, ℕ, ◌+◌, ◌-◌, ◌<◌, ◌≤◌, Bool, true, false, cond, List, [], ◌∷◌, ◌++◌, length, get_or, take, drop, set, replicate, Some, None, Ok, Err, Result, sym, refl, ap, ◌∙◌, append_assoc, append-nil, arith, length-set}
 use Rattle.std.proofs.lemmas.List.{take_more_set, take_all, length-replicate}
 use Rattle.std.proofs.lemmas.Bool.{cond-true, cond-false, eq-eqb, ne_eqb}
-use Rattle.line.specs.Fields.{first_field, later_fields, later_place}
+use Rattle.std.proofs.lemmas.Option.{cond_some, none-some}
+use Rattle.line.specs.Fields.{placed}
 use Rattle.line.specs.Numbers.{is_number, value}
 use Rattle.line.specs.Parse.{onto, numbers, counted}
 use Rattle.line.specs.declared.command.Refusal.{Refusal}
 use Rattle.line.specs.declared.command.Refusal.TheVariants.{NoNumber, FieldCount}
+use Rattle.line.proofs.Cuts.{length-placed}
 use Rattle.line.proofs.Digits.{Told}
-
--- what a reader handed out was the first of what it had left
-pub record First (place : ℕ) (fs : List (List ℕ)) (at : ℕ) (text : List ℕ) : Type 0 where
-  pub is : fs ≡ text ∷ later_fields fs
-  pub here : at ≡ place
-  pub next : later_place place fs ≡ place + 1
-
-abbrev text_or : Option (ℕ × List ℕ) → List ℕ
-text_or None = []
-text_or (Some f) = f.1
-
-abbrev place_or : Option (ℕ × List ℕ) → ℕ
-place_or None = 0
-place_or (Some f) = f.0
-
-abbrev told_some : Option (ℕ × List ℕ) → ℕ
-told_some None = 0
-told_some (Some f) = 1
-
-pub handed : (place : ℕ) (fs : List (List ℕ)) (at : ℕ) (text : List ℕ) → Some (at, text) ≡ first_field place fs → First place fs at text
-handed place [] at text e = absurd (let z : ◌≡◌ {A = ℕ} 1 0 = ap told_some e in omega arith)
-handed place (f ∷ fs) at text e = record { is = ap (λ x. x ∷ fs) (sym (ap text_or e)); here = ap place_or e; next = refl }
-
-pub none_left : (place : ℕ) (fs : List (List ℕ)) → None ≡ first_field place fs → fs ≡ []
-none_left place [] e = refl
-none_left place (f ∷ fs) e = absurd (let z : ◌≡◌ {A = ℕ} 0 1 = ap told_some e in omega arith)
 
 -- numbers in front of those that are yet to be read
 abbrev pub front : List ℕ → Result (List ℕ) Refusal → Result (List ℕ) Refusal
@@ -48,62 +24,92 @@ front_none : (r : Result (List ℕ) Refusal) → front [] r ≡ r
 front_none (Ok ms) = refl
 front_none (Err e) = refl
 
--- Of the texts ts, of which the first is field 1, those before a place are read into ns, and us are left.
-pub record Sofar (ts : List (List ℕ)) (ns : List ℕ) (place : ℕ) (us : List (List ℕ)) (n : ℕ) : Type 0 where
+-- Of the texts ts, of which the first is field 1, those before a place are read into ns, and a reader has the others left.
+pub record Sofar (ts : List (List ℕ)) (ns : List ℕ) (us : List (ℕ × List ℕ)) (n : ℕ) : Type 0 where
+  pub place : ℕ
+  pub others : List (List ℕ)
+  pub left : us ≡ placed place others
   pub begun : 1 ≤ place
   pub long : length ns ≡ n
-  pub room : place - 1 + length us ≡ n
-  pub is : numbers 1 ts ≡ front (take (place - 1) ns) (numbers place us)
+  pub room : place - 1 + length others ≡ n
+  pub is : numbers 1 ts ≡ front (take (place - 1) ns) (numbers place others)
 
-pub start : (ts : List (List ℕ)) (place n : ℕ) → place ≡ 1 → length ts ≡ n → Sofar ts (replicate n 0) place ts n
-start ts place n p l =
-    let none : place - 1 ≡ 0 = omega arith in
+pub start : (ts : List (List ℕ)) (us : List (ℕ × List ℕ)) (n : ℕ) → us ≡ placed 1 ts → length us ≡ n → Sofar ts (replicate n 0) us n
+start ts us n e l =
     record {
+      place = 1;
+      others = ts;
+      left = e;
       begun = omega arith;
       long = length-replicate n 0;
-      room = omega arith;
-      is = sym (front_none (numbers 1 ts)) ∙ (λ i. front (take (sym none i) (replicate n 0)) (numbers (sym p i) ts));
+      room = omega (arith, l, ap length e, length-placed 1 ts);
+      is = sym (front_none (numbers 1 ts));
     }
 
--- a text that tells v is a number with that value, and one that tells none is no number
-told_value : (t : List ℕ) (v : ℕ) (b : Bool) → b ≡ is_number t → Some v ≡ cond b (Some (value t)) None → (b ≡ true) × (v ≡ value t)
-told_value t v true e h = (refl, let z : Some v ≡ Some (value t) = h in cc)
-told_value t v false e h = absurd (let z : Some v ≡ None = h in let w : ◌≡◌ {A = ℕ} 0 1 = cc in omega arith)
+-- the reader's first field
+record First (place : ℕ) (ts : List (List ℕ)) (at : ℕ) (text : List ℕ) (us : List (ℕ × List ℕ)) : Type 0 where
+  pub later : List (List ℕ)
+  pub is : ts ≡ text ∷ later
+  pub here : at ≡ place
+  pub next : us ≡ placed (place + 1) later
 
-told_none : (t : List ℕ) (b : Bool) → b ≡ is_number t → None ≡ cond b (Some (value t)) None → b ≡ false
-told_none t true e h = absurd (let z : None ≡ Some (value t) = h in let w : ◌≡◌ {A = ℕ} 0 1 = cc in omega arith)
-told_none t false e h = refl
+first : (place : ℕ) (ts : List (List ℕ)) (at : ℕ) (text : List ℕ) (us : List (ℕ × List ℕ)) → placed place ts ≡ (at, text) ∷ us → First place ts at text us
+first place [] at text us e = absurd (omega (arith, ap length e))
+first place (t ∷ ts) at text us e =
+    let head : (place, t) ≡ (at, text) = ap (λ x. get_or x 0 (at, text)) e in
+    record { later = ts; is = ap (λ x. x.1 ∷ ts) head; here = ap (λ x. x.0) (sym head); next = ap (drop 1) (sym e) }
 
-module _ {ts : List (List ℕ)} {ns : List ℕ} {place : ℕ} {us : List (List ℕ)} {n : ℕ} (s : Sofar ts ns place us n) (t : List ℕ) (vs : List (List ℕ)) (e : us ≡ t ∷ vs) where
-  pub turn : (v : ℕ) → Told t (Some v) → Sofar ts (set ns (place - 1) v) (place + 1) vs n
+-- a text that tells none is no number
+told_none : (t : List ℕ) (b : Bool) → None ≡ cond b (Some (value t)) None → b ≡ false
+told_none t true h = absurd (none-some (value t) h)
+told_none t false h = refl
+
+module _ {ts : List (List ℕ)} {ns : List ℕ} {us vs : List (ℕ × List ℕ)} {n : ℕ} (s : Sofar ts ns us n) (at : ℕ) (t : List ℕ) (e : us ≡ (at, t) ∷ vs) where
+  f : First s.place s.others at t vs
+  f = first s.place s.others at t vs (sym s.left ∙ e)
+
+  pub inside : (1 ≤ at) × (at - 1 < n)
+  inside = let l = ap length f.is in (omega (arith, f.here, s.begun), omega (arith, f.here, s.room))
+
+  pub turn : (v : ℕ) → Told t (Some v) → Sofar ts (set ns (at - 1) v) vs n
   turn v h =
-      let l = ap length e in
-      let told = told_value t v (is_number t) refl h in
-      let i : place - 1 + 1 ≡ place + 1 - 1 = omega (arith, s.begun) in
-      let more : take (place - 1 + 1) (set ns (place - 1) v) ≡ take (place - 1) ns ++ v ∷ [] = take_more_set ns (place - 1) v (omega (arith, s.long, s.room)) in
-      let read : numbers place us ≡ onto v (numbers (place + 1) vs) = ap (numbers place) e ∙ cond-true _ _ _ told.0 ∙ ap (λ x. onto x (numbers (place + 1) vs)) (sym told.1) in
+      let l = ap length f.is in
+      let told = cond_some (is_number t) (value t) v (sym h) in
+      let i : s.place - 1 + 1 ≡ s.place + 1 - 1 = omega (arith, s.begun) in
+      let j : at - 1 ≡ s.place - 1 = omega (arith, f.here) in
+      let more : take (s.place - 1 + 1) (set ns (s.place - 1) v) ≡ take (s.place - 1) ns ++ v ∷ [] = take_more_set ns (s.place - 1) v (omega (arith, s.long, s.room)) in
+      let read : numbers s.place s.others ≡ onto v (numbers (s.place + 1) f.later) = ap (numbers s.place) f.is ∙ cond-true _ _ _ told.0 ∙ ap (λ x. onto x (numbers (s.place + 1) f.later)) told.1 in
       record {
+        place = s.place + 1;
+        others = f.later;
+        left = f.next;
         begun = omega arith;
-        long = length-set ns (place - 1) v ∙ s.long;
+        long = length-set ns (at - 1) v ∙ s.long;
         room = omega (arith, s.begun, s.room);
         is =
-            s.is ∙ ap (front (take (place - 1) ns)) read ∙ front_onto (take (place - 1) ns) v (numbers (place + 1) vs)
-            ∙ ap (λ x. front x (numbers (place + 1) vs)) (sym more ∙ ap (λ x. take x (set ns (place - 1) v)) i);
+            s.is ∙ ap (front (take (s.place - 1) ns)) read ∙ front_onto (take (s.place - 1) ns) v (numbers (s.place + 1) f.later)
+            ∙ ap (λ x. front x (numbers (s.place + 1) f.later)) (sym more ∙ ap (λ x. take x (set ns (s.place - 1) v)) i ∙ ap (λ x. take (s.place + 1 - 1) (set ns x v)) (sym j));
       }
 
-  pub stop : Told t None → Err (NoNumber place) ≡ numbers 1 ts
+  pub stop : Told t None → Err (NoNumber at) ≡ numbers 1 ts
   stop h =
-      let read : numbers place us ≡ Err (NoNumber place) = ap (numbers place) e ∙ cond-false _ _ _ (told_none t (is_number t) refl h) in
-      sym (s.is ∙ ap (front (take (place - 1) ns)) read)
+      let read : numbers s.place s.others ≡ Err (NoNumber s.place) = ap (numbers s.place) f.is ∙ cond-false _ _ _ (told_none t (is_number t) h) in
+      ap (λ x. Err (NoNumber x)) f.here ∙ sym (s.is ∙ ap (front (take (s.place - 1) ns)) read)
 
-pub all_read : {ts : List (List ℕ)} {ns : List ℕ} {place : ℕ} {us : List (List ℕ)} {n : ℕ} → Sofar ts ns place us n → us ≡ [] → Ok ns ≡ numbers 1 ts
-all_read {ts} {ns} {place} {us} {n} s e =
-    let l = ap length e in
-    sym (s.is ∙ ap (λ x. front (take (place - 1) ns) (numbers place x)) e ∙ ap Ok (append-nil _ ∙ take_all (place - 1) ns (omega (arith, s.long, s.room))))
+pub all_read : {ts : List (List ℕ)} {ns : List ℕ} {us : List (ℕ × List ℕ)} {n : ℕ} → Sofar ts ns us n → us ≡ [] → Ok ns ≡ numbers 1 ts
+all_read {ts} {ns} {us} {n} s e = none s.others (sym s.left ∙ e) s.room s.is
+  where
+    none : (vs : List (List ℕ)) → placed s.place vs ≡ [] → s.place - 1 + length vs ≡ n → numbers 1 ts ≡ front (take (s.place - 1) ns) (numbers s.place vs) → Ok ns ≡ numbers 1 ts
+    none [] h r i = sym (i ∙ ap Ok (append-nil _ ∙ take_all (s.place - 1) ns (omega (arith, s.long, r))))
+    none (v ∷ vs) h r i = absurd (omega (arith, ap length h))
 
--- the count comes first
-pub count_differs : (ts : List (List ℕ)) (n : ℕ) → (length ts ≡ n → ⊥) → Err (FieldCount (length ts + 1)) ≡ counted n ts
-count_differs ts n h = sym (cond-false _ _ _ (ne_eqb _ _ h))
+-- the count comes first: m is how many fields a reader has left, and n how many are wanted
+module _ (ts : List (List ℕ)) {us : List (ℕ × List ℕ)} (e : us ≡ placed 1 ts) {m : ℕ} (l : m ≡ length us) where
+  same : m ≡ length ts
+  same = omega (arith, l, ap length e, length-placed 1 ts)
 
-pub count_agrees : (ts : List (List ℕ)) (n : ℕ) (r : Result (List ℕ) Refusal) → length ts ≡ n → r ≡ numbers 1 ts → r ≡ counted n ts
-count_agrees ts n r h e = e ∙ sym (cond-true _ _ _ (eq-eqb _ _ h))
+  pub count_agrees : {n : ℕ} {r : Result (List ℕ) Refusal} → m ≡ n → r ≡ numbers 1 ts → r ≡ counted n ts
+  count_agrees h e = e ∙ sym (cond-true _ _ _ (eq-eqb _ _ (sym same ∙ h)))
+
+  pub count_differs : {n : ℕ} → (m ≡ n → ⊥) → Err (FieldCount (m + 1)) ≡ counted n ts
+  count_differs h = sym (cond-false _ _ _ (ne_eqb _ _ (λ x. h (same ∙ x))) ∙ ap (λ x. Err (FieldCount (x + 1))) (sym same))

@@ -2,8 +2,9 @@
 use Rattle.std.proofs.Common.{◌≡◌, ℕ, ◌-◌, ◌≤◌, List, [], ◌∷◌, length, get_or, take, drop, None, Err, Result, sym, refl, ap, ◌∙◌, ⊎_elim, arith}
 use Rattle.std.proofs.lemmas.List.{take_rest}
 use Rattle.std.proofs.lemmas.Bool.{cases_eq, cond-true, cond-false, eq-eqb, ne_eqb}
+use Rattle.std.specs.List.{onto_first}
 use Rattle.line.specs.Bytes.{bad_byte}
-use Rattle.line.specs.Fields.{on_first, fields}
+use Rattle.line.specs.Fields.{fields}
 use Rattle.line.specs.Letters.{kinds, kind_of}
 use Rattle.line.specs.Parse.{of_kind, lettered, unless_bad, parsed}
 use Rattle.line.specs.declared.command.Command.{Command}
@@ -14,7 +15,7 @@ abbrev Told : Type 0
 Told = Result Command Refusal
 
 -- no bad byte
-good : (line : List ℕ) (r : Told) → None ≡ bad_byte 0 line → r ≡ lettered (fields line) → r ≡ parsed line
+good : (line : List ℕ) (r : Told) → None ≡ bad_byte line → r ≡ lettered (fields line) → r ≡ parsed line
 good line r n e = e ∙ ap (λ o. unless_bad o (lettered (fields line))) n
 
 -- a comma is no letter
@@ -28,26 +29,26 @@ empty_first l bs e = ap lettered (cond-true _ _ _ (eq-eqb l 44 e))
 by_first : (l : ℕ) (bs : List ℕ) (ts : List (List ℕ)) → ((l ≡ 44 → ⊥) → fields (l ∷ bs) ≡ (l ∷ []) ∷ ts) → of_kind (kind_of kinds l) ts ≡ lettered (fields (l ∷ bs))
 by_first l bs ts e = ⊎_elim (λ c. comma_none l ts c ∙ sym (empty_first l bs c)) (λ n. sym (ap lettered (e n))) (cases_eq l 44)
 
-pub alone : (line : List ℕ) (ts : List (List ℕ)) (r : Told) → length line ≡ 1 → None ≡ bad_byte 0 line → ts ≡ [] → r ≡ of_kind (kind_of kinds (get_or line 0 0)) ts → r ≡ parsed line
-alone [] ts r l n s e = absurd (omega arith)
-alone (x ∷ []) ts r l n s e = good (x ∷ []) r n (e ∙ by_first x [] ts (λ c. cond-false _ _ _ (ne_eqb x 44 c) ∙ ap (λ y. (x ∷ []) ∷ y) (sym s)))
-alone (x ∷ y ∷ bs) ts r l n s e = absurd (omega arith)
+pub alone : (line : List ℕ) (r : Told) → length line ≡ 1 → None ≡ bad_byte line → r ≡ of_kind (kind_of kinds (get_or line 0 0)) [] → r ≡ parsed line
+alone [] r l n e = absurd (omega arith)
+alone (x ∷ []) r l n e = good (x ∷ []) r n (e ∙ by_first x [] [] (λ c. cond-false _ _ _ (ne_eqb x 44 c)))
+alone (x ∷ y ∷ bs) r l n e = absurd (omega arith)
 
-pub split : (line : List ℕ) (ts : List (List ℕ)) (r : Told) → 2 ≤ length line → get_or line 1 0 ≡ 44 → None ≡ bad_byte 0 line → ts ≡ fields (take (length line - 2) (drop 2 line)) → r ≡ of_kind (kind_of kinds (get_or line 0 0)) ts → r ≡ parsed line
-split [] ts r l c n s e = absurd (omega arith)
-split (x ∷ []) ts r l c n s e = absurd (omega arith)
-split (x ∷ b ∷ bs) ts r l c n s e =
-    good (x ∷ b ∷ bs) r n (e ∙ by_first x (b ∷ bs) ts (λ m.
-    cond-false _ _ _ (ne_eqb x 44 m) ∙ ap (on_first x) (cond-true _ _ _ (eq-eqb b 44 c)) ∙ ap (λ y. (x ∷ []) ∷ y) (sym (s ∙ ap fields (take_rest (x ∷ b ∷ bs) 2)))))
+pub split : (line : List ℕ) (r : Told) → 2 ≤ length line → get_or line 1 0 ≡ 44 → None ≡ bad_byte line → r ≡ of_kind (kind_of kinds (get_or line 0 0)) (fields (take (length line - 2) (drop 2 line))) → r ≡ parsed line
+split [] r l c n e = absurd (omega arith)
+split (x ∷ []) r l c n e = absurd (omega arith)
+split (x ∷ b ∷ bs) r l c n e =
+    good (x ∷ b ∷ bs) r n (e ∙ by_first x (b ∷ bs) _ (λ m.
+    cond-false _ _ _ (ne_eqb x 44 m) ∙ ap (onto_first x) (cond-true _ _ _ (eq-eqb b 44 c)) ∙ ap (λ y. (x ∷ []) ∷ fields y) (sym (take_rest (x ∷ b ∷ bs) 2))))
 
 -- two bytes and more before the first comma
-longer : (x b : ℕ) (fs : List (List ℕ)) → lettered (on_first x (on_first b fs)) ≡ Err NoLetter
+longer : (x b : ℕ) (fs : List (List ℕ)) → lettered (onto_first x (onto_first b fs)) ≡ Err NoLetter
 longer x b [] = refl
 longer x b (f ∷ fs) = refl
 
-pub no_letter : (line : List ℕ) → (length line ≡ 1 → ⊥) → (2 ≤ length line → get_or line 1 0 ≡ 44 → ⊥) → None ≡ bad_byte 0 line → Err NoLetter ≡ parsed line
+pub no_letter : (line : List ℕ) → (length line ≡ 1 → ⊥) → (2 ≤ length line → get_or line 1 0 ≡ 44 → ⊥) → None ≡ bad_byte line → Err NoLetter ≡ parsed line
 no_letter [] a b n = refl
 no_letter (x ∷ []) a b n = absurd (a refl)
 no_letter (x ∷ y ∷ bs) a b n =
     let m = b (omega arith) in
-    good (x ∷ y ∷ bs) _ n (sym (⊎_elim (empty_first x (y ∷ bs)) (λ c. ap lettered (cond-false _ _ _ (ne_eqb x 44 c) ∙ ap (on_first x) (cond-false _ _ _ (ne_eqb y 44 m))) ∙ longer x y (fields bs)) (cases_eq x 44)))
+    good (x ∷ y ∷ bs) _ n (sym (⊎_elim (empty_first x (y ∷ bs)) (λ c. ap lettered (cond-false _ _ _ (ne_eqb x 44 c) ∙ ap (onto_first x) (cond-false _ _ _ (ne_eqb y 44 m))) ∙ longer x y (fields bs)) (cases_eq x 44)))

@@ -1,12 +1,14 @@
 -- Each command is read from one text.
-use Rattle.std.proofs.Common.{◌≡◌, ℕ, zero, suc, ◌+◌, Bool, true, false, cond, eqb, List, [], ◌∷◌, ◌++◌, map, length, get_or, Some, None, Ok, Err, decimal, Option, Result, sym, refl, ap, ◌∙◌, subst, append-nil, arith}
+use Rattle.std.proofs.Common.{◌≡◌, ℕ, zero, suc, ◌+◌, Bool, true, false, cond, not, eqb, List, [], ◌∷◌, ◌++◌, map, length, get_or, Some, None, Ok, Err, decimal, Option, Result, sym, refl, ap, ◌∙◌, subst, append-nil, arith}
 use lib.ListN.{length-map}
 use Rattle.std.specs.Char.{is_ascii_digit}
+use Rattle.std.specs.List.{onto_first, position_from}
 use Rattle.std.specs.Str.{all_ascii_digits}
 use Rattle.std.proofs.lemmas.Bool.{cond-true, cond-false, eq-eqb}
 use Rattle.std.proofs.lemmas.Bool.Decides.{nat_tests}
+use Rattle.std.proofs.lemmas.Iterator.Adapters.{position_from-zero}
 use Rattle.line.specs.Bytes.{plain, bad_byte}
-use Rattle.line.specs.Fields.{on_first, fields, joined}
+use Rattle.line.specs.Fields.{fields, joined}
 use Rattle.line.specs.Letters.{Kind, kinds, kind_of}
 use Rattle.line.specs.Numbers.{is_number, value}
 use Rattle.line.specs.Parse.{onto, numbers, counted, made, of_kind, lettered, unless_bad, parsed}
@@ -15,7 +17,8 @@ use Rattle.line.specs.declared.command.Command.{Command}
 use Rattle.line.specs.declared.command.Command.TheVariants.{NewPrimitive, NewCompound, AppendNeed, AppendAdd, AppendDelete, EndPhase, OpenMethod, NewStep, PutOrder, PutLink, RouteNeed, RouteAdd, CloseMethod, Decompose, Judge, Take}
 use Rattle.line.specs.declared.command.Refusal.{Refusal}
 use Rattle.line.specs.declared.command.Refusal.TheVariants.{BadByte, NoLetter, FieldCount, NoNumber}
-use Rattle.line.proofs.Decimals.{digits, passes, value_of, small, only}
+use Rattle.line.proofs.Decimals.{digits, passes, value_of, only}
+use Rattle.line.proofs.Digits.{small}
 use Rattle.line.proofs.Joins.{whole}
 
 -- ---- from a command to its text and back
@@ -34,11 +37,11 @@ other_digits : (d : ℕ) (ds : List ℕ) → all_ascii_digits (d ∷ ds) ≡ tru
 other_digits d ds h = grind (arith, nat_tests)
 
 abbrev NoBad : List ℕ → Type 0
-NoBad bs = (i : ℕ) → bad_byte i bs ≡ None
+NoBad bs = (i : ℕ) → position_from (λ b. not (plain b)) i bs ≡ None
 
 plain_digits : (ds rest : List ℕ) → all_ascii_digits ds ≡ true → NoBad rest → NoBad (ds ++ rest)
 plain_digits [] rest h n i = n i
-plain_digits (d ∷ ds) rest h n i = cond-true _ _ _ (digit_plain d (first_digit d ds h)) ∙ plain_digits ds rest (other_digits d ds h) n (i + 1)
+plain_digits (d ∷ ds) rest h n i = cond-false _ _ _ (ap not (digit_plain d (first_digit d ds h))) ∙ plain_digits ds rest (other_digits d ds h) n (i + 1)
 
 plain_commas : (ns : List ℕ) → Small ns → NoBad (commas ns)
 plain_commas [] s i = refl
@@ -47,7 +50,7 @@ plain_commas (n ∷ ns) s i = plain_digits (decimal n) (commas ns) (digits n s.0
 fields_digits : (ds rest : List ℕ) (fs : List (List ℕ)) → all_ascii_digits ds ≡ true → fields rest ≡ [] ∷ fs → fields (ds ++ rest) ≡ ds ∷ fs
 fields_digits [] rest fs h e = e
 fields_digits (d ∷ ds) rest fs h e =
-    cond-false _ _ _ (digit_no_comma d (first_digit d ds h)) ∙ ap (on_first d) (fields_digits ds rest fs (other_digits d ds h) e)
+    cond-false _ _ _ (digit_no_comma d (first_digit d ds h)) ∙ ap (onto_first d) (fields_digits ds rest fs (other_digits d ds h) e)
 
 fields_commas : (ns : List ℕ) → Small ns → fields (commas ns) ≡ [] ∷ map decimal ns
 fields_commas [] s = refl
@@ -65,8 +68,8 @@ counted_back k ns l s = cond-true _ _ _ (eq-eqb _ _ (length-map ns decimal ∙ l
 read_of : (l : ℕ) (k : Kind) (ns : List ℕ) → plain l ≡ true → eqb l 44 ≡ false → kind_of kinds l ≡ Some k → length ns ≡ k.count → Small ns
     → parsed (l ∷ commas ns) ≡ Ok (k.command (λ i. get_or ns i 0))
 read_of l k ns p n e c s =
-    let fs : fields (l ∷ commas ns) ≡ (l ∷ []) ∷ map decimal ns = cond-false _ _ _ n ∙ ap (on_first l) (fields_commas ns s) in
-    ap (λ o. unless_bad o (lettered (fields (l ∷ commas ns)))) (cond-true _ _ _ p ∙ plain_commas ns s 1)
+    let fs : fields (l ∷ commas ns) ≡ (l ∷ []) ∷ map decimal ns = cond-false _ _ _ n ∙ ap (onto_first l) (fields_commas ns s) in
+    ap (λ o. unless_bad o (lettered (fields (l ∷ commas ns)))) (position_from-zero (λ b. not (plain b)) (l ∷ commas ns) ∙ cond-false _ (Some 0) _ (ap not p) ∙ plain_commas ns s 1)
     ∙ ap lettered fs ∙ ap (λ o. of_kind o (map decimal ns)) e ∙ ap (made k) (counted_back k.count ns c s)
 
 abbrev first_letter : Command → ℕ
@@ -272,7 +275,7 @@ module _ (line : List ℕ) (c : Command) where
   by_bytes None h = by_fields (fields line) refl h
 
   is_text : parsed line ≡ Ok c → IsText line c
-  is_text h = by_bytes (bad_byte 0 line) h
+  is_text h = by_bytes (bad_byte line) h
 
 pub one_text : OneText
 one_text = record { read = read; only = λ line c h. (is_text line c h).text; small = λ line c h. (is_text line c h).few }

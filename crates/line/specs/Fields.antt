@@ -1,40 +1,26 @@
 -- The fields of a line.
-use Rattle.std.specs.Prelude.{◌≡◌, ℕ, ◌+◌, ◌<◌, Bool, cond, List, [], ◌∷◌, ◌++◌, length, Some, None, Option, ◌==◌, ◌≢◌, slice_index, slice_index_or}
-
--- a byte in front of the first of some fields
-abbrev pub on_first : ℕ → List (List ℕ) → List (List ℕ)
-on_first b [] = (b ∷ []) ∷ []
-on_first b (f ∷ fs) = (b ∷ f) ∷ fs
+use Rattle.std.specs.Prelude.{◌≡◌, ℕ, ◌+◌, ◌<◌, List, [], ◌∷◌, length, Some, None, Option, ◌==◌, ◌≢◌, slice_index, slice_index_or}
+use Rattle.std.specs.Borrow.{Bor}
+use Rattle.std.specs.List.{slice_split, join_with_byte}
 
 -- the parts between the commas: one more than there are commas
 abbrev pub fields : List ℕ → List (List ℕ)
-fields [] = [] ∷ []
-fields (b ∷ bs) = cond (b == 44) ([] ∷ fields bs) (on_first b (fields bs))
+fields line = slice_split (λ b. b == 44) line
 
--- what a reader has yet to hand out: the fields of the rest, or none once the last was handed out
-abbrev pub left : Bool → List ℕ → List (List ℕ)
-left more rest = cond more (fields rest) []
+-- the fields of what is left of a line, or none where nothing is left
+abbrev pub fields_left : Option (Bor (List ℕ)) → List (List ℕ)
+fields_left None = []
+fields_left (Some rest) = fields rest.now
 
--- the first of these fields with its place, if there is one
-abbrev pub first_field : ℕ → List (List ℕ) → Option (ℕ × List ℕ)
-first_field place [] = None
-first_field place (f ∷ fs) = Some (place, f)
+-- fields with their places, of which the first is given
+abbrev pub placed : ℕ → List (List ℕ) → List (ℕ × List ℕ)
+placed place [] = []
+placed place (f ∷ fs) = (place, f) ∷ placed (place + 1) fs
 
--- the fields after the first
-abbrev pub later_fields : List (List ℕ) → List (List ℕ)
-later_fields [] = []
-later_fields (f ∷ fs) = fs
-
--- the place of the field after the first, or the same place where there is none
-abbrev pub later_place : ℕ → List (List ℕ) → ℕ
-later_place place [] = place
-later_place place (f ∷ fs) = place + 1
-
--- A reader that had these fields left, the first of them at a place, handed out the first and has the others left.
-pub record Handed (place : ℕ) (fs : List (List ℕ)) (r : Option (ℕ × List ℕ)) (next : ℕ) (gs : List (List ℕ)) : Type 0 where
-  pub field : r ≡ first_field place fs
-  pub after : gs ≡ later_fields fs
-  pub to : next ≡ later_place place fs
+-- what a reader has yet to hand out: the fields of the rest with their places, or none once the last was handed out
+abbrev pub left : Option (ℕ × Bor (List ℕ)) → List (ℕ × List ℕ)
+left None = []
+left (Some r) = placed r.0 (fields r.1.now)
 
 -- no comma among the first n bytes
 abbrev pub NoComma : List ℕ → ℕ → Type 0
@@ -42,9 +28,7 @@ NoComma bs n = (k : ℕ) → k < n → slice_index bs k ≢ 44
 
 -- fields with a comma between each and the next
 abbrev pub joined : List (List ℕ) → List ℕ
-joined [] = []
-joined (f ∷ []) = f
-joined (f ∷ g ∷ fs) = f ++ (44 ∷ joined (g ∷ fs))
+joined fs = join_with_byte 44 fs
 
 -- The fields are the parts of the line: joined by commas they are the line, and none holds a comma.
 pub record Parts : Type 0 where

@@ -50,4 +50,4 @@ unless_bad None r = r
 
 -- what a line tells
 abbrev pub parsed : List ℕ → Result Command Refusal
-parsed line = unless_bad (bad_byte 0 line) (lettered (fields line))
+parsed line = unless_bad (bad_byte line) (lettered (fields line))

@@ -1,4 +1,5 @@
-ghost use Rattle.std.specs.Prelude.{ℕ, ◌+◌, ◌^◌, ◌<◌, length, if◌then◌else◌};
+ghost use Rattle.std.specs.Prelude.{ℕ, ◌+◌, ◌^◌, ◌<◌, length};
+ghost use Rattle.std.specs.Option.{ForSome};
 
 /// A part of a line between commas, with its place among the line's fields.
 #[derive(Clone, Copy)]
@@ -10,8 +11,7 @@ pub struct Field<'a> {
 /// Hands out the fields of a line, from the first on. It borrows the line and copies nothing.
 #[derive(Clone, Copy)]
 pub struct Fields<'a> {
-    pub(super) rest: &'a [u8],
-    pub(super) more: bool,
-    pub(super) place: usize,
-    ghost fits: { (if more then length rest.now + 1 else 0) + place < 2 ^ 64 },
+    /// The place of the next field, and the line from there on; none once the last field was handed out.
+    pub(super) rest: Option<(usize, &'a [u8])>,
+    ghost fits: { ForSome rest (λ r. r.0 + length r.1.now + 1 < 2 ^ 64) },
 }

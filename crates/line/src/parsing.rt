@@ -1,6 +1,6 @@
 ghost use Rattle.std.specs.Prelude.{◌≡◌};
 ghost use Rattle.line.specs.Bytes.{bad_byte, plain};
-ghost use Rattle.line.specs.Fields.{left};
+ghost use Rattle.line.specs.Fields.{fields_left};
 ghost use Rattle.line.specs.Letters.{kind_of, kinds, plan_kinds};
 ghost use Rattle.line.specs.Parse.{counted, of_kind, parsed, without_numbers};
 
@@ -11,103 +11,93 @@ use crate::{Command, Fields, Refusal};
 fn is_plain(b: u8) -> bool
     ensures { result ≡ plain b }
 {
-    (b >= 0x20) & ((b <= 0x7E) & (b != b'"'))
+    (0x20..=0x7E).contains(&b) && b != b'"'
 }
 
 /// The place of the first byte that no line may hold.
 fn first_bad(line: &[u8]) -> Option<usize>
-    ensures { result ≡ bad_byte 0 line.now }
+    ensures { result ≡ bad_byte line.now }
 {
-    for (i, b) in line.iter().enumerate() {
-        if !is_plain(*b) {
-            return Some(i);
-        }
-    }
-    None
+    line.iter().position(|b| !is_plain(*b))
 }
 
 /// The numbers of the fields after the letter, of which there are to be `N`.
-fn numbers<const N: usize>(after: Fields<'_>) -> Result<[u8; N], Refusal>
-    requires { after.place ≡ 1 }
-    ensures { result ≡ counted N (left after.entry.more after.entry.rest.now) }
+fn numbers<const N: usize>(rest: Option<&[u8]>) -> Result<[u8; N], Refusal>
+    ensures { result ≡ counted N (fields_left rest.entry) }
 {
+    let after = Fields::after_letter(rest);
     let count = after.remaining();
     if count != N {
         return Err(Refusal::FieldCount { count: count + 1 });
     }
     let mut all = [0; N];
     for field in after {
-        match number(field.text) {
-            Some(n) => all[field.place - 1] = n,
-            None => return Err(Refusal::NoNumber { field: field.place }),
-        }
+        all[field.place - 1] = number(field.text).ok_or(Refusal::NoNumber { field: field.place })?;
     }
     Ok(all)
 }
 
 /// A command whose letter stands alone.
-fn alone(after: Fields<'_>, command: Command) -> Result<Command, Refusal>
-    requires { after.place ≡ 1 }
-    ensures { result ≡ without_numbers command (counted 0 (left after.entry.more after.entry.rest.now)) }
+fn alone(rest: Option<&[u8]>, command: Command) -> Result<Command, Refusal>
+    ensures { result ≡ without_numbers command (counted 0 (fields_left rest.entry)) }
 {
-    let [] = numbers::<0>(after)?;
+    let [] = numbers::<0>(rest)?;
     Ok(command)
 }
 
 /// The command of a line that tells tasks and methods, or of any other line.
-fn command_of(letter: char, after: Fields<'_>) -> Result<Command, Refusal>
-    requires { after.place ≡ 1 }
-    ensures { result ≡ of_kind (kind_of kinds letter) (left after.entry.more after.entry.rest.now) }
+fn command_of(letter: char, rest: Option<&[u8]>) -> Result<Command, Refusal>
+    ensures { result ≡ of_kind (kind_of kinds letter) (fields_left rest.entry) }
 {
+    // tried: `numbers::<2>(rest).map(|[task, fact]| ..)`; a proof learns nothing of a closure that takes an array apart
     match letter {
-        'P' => alone(after, Command::NewPrimitive),
-        'C' => alone(after, Command::NewCompound),
+        'P' => alone(rest, Command::NewPrimitive),
+        'C' => alone(rest, Command::NewCompound),
         'N' => {
-            let [task, fact] = numbers::<2>(after)?;
+            let [task, fact] = numbers::<2>(rest)?;
             Ok(Command::AppendNeed { task, fact })
         }
         'A' => {
-            let [task, fact] = numbers::<2>(after)?;
+            let [task, fact] = numbers::<2>(rest)?;
             Ok(Command::AppendAdd { task, fact })
         }
         'D' => {
-            let [task, fact] = numbers::<2>(after)?;
+            let [task, fact] = numbers::<2>(rest)?;
             Ok(Command::AppendDelete { task, fact })
         }
-        'E' => alone(after, Command::EndPhase),
+        'E' => alone(rest, Command::EndPhase),
         'M' => {
-            let [task] = numbers::<1>(after)?;
+            let [task] = numbers::<1>(rest)?;
             Ok(Command::OpenMethod { task })
         }
         'U' => {
-            let [need, step, label] = numbers::<3>(after)?;
+            let [need, step, label] = numbers::<3>(rest)?;
             Ok(Command::RouteNeed { need, step, label })
         }
         'V' => {
-            let [add, step, label] = numbers::<3>(after)?;
+            let [add, step, label] = numbers::<3>(rest)?;
             Ok(Command::RouteAdd { add, step, label })
         }
-        'K' => alone(after, Command::CloseMethod),
-        _ => plan_command(letter, after),
+        'K' => alone(rest, Command::CloseMethod),
+        _ => plan_command(letter, rest),
     }
 }
 
 /// The command of a line that tells, judges or follows a plan.
-fn plan_command(letter: char, after: Fields<'_>) -> Result<Command, Refusal>
-    requires { after.place ≡ 1 }
-    ensures { result ≡ of_kind (kind_of plan_kinds letter) (left after.entry.more after.entry.rest.now) }
+fn plan_command(letter: char, rest: Option<&[u8]>) -> Result<Command, Refusal>
+    ensures { result ≡ of_kind (kind_of plan_kinds letter) (fields_left rest.entry) }
 {
     match letter {
         'S' => {
-            let [task] = numbers::<1>(after)?;
+            let [task] = numbers::<1>(rest)?;
             Ok(Command::NewStep { task })
         }
         'O' => {
-            let [earlier, later] = numbers::<2>(after)?;
+            let [earlier, later] = numbers::<2>(rest)?;
             Ok(Command::PutOrder { earlier, later })
         }
         'L' => {
-            let [producer, add, consumer, need] = numbers::<4>(after)?;
+            let [producer, add, consumer, need] = numbers::<4>(rest)?;
             Ok(Command::PutLink {
                 producer,
                 add,
@@ -116,12 +106,12 @@ fn plan_command(letter: char, after: Fields<'_>) -> Result<Command, Refusal>
             })
         }
         'X' => {
-            let [step, method] = numbers::<2>(after)?;
+            let [step, method] = numbers::<2>(rest)?;
             Ok(Command::Decompose { step, method })
         }
-        'J' => alone(after, Command::Judge),
+        'J' => alone(rest, Command::Judge),
         'R' => {
-            let [step] = numbers::<1>(after)?;
+            let [step] = numbers::<1>(rest)?;
             Ok(Command::Take { step })
         }
         _ => Err(Refusal::NoLetter),
@@ -136,8 +126,8 @@ pub fn parse(line: &[u8]) -> Result<Command, Refusal>
         return Err(Refusal::BadByte { place });
     }
     match line {
-        [letter, b',', rest @ ..] => command_of(*letter as char, Fields::after_letter(rest)),
-        [letter] => command_of(*letter as char, Fields::none_after(line)),
+        [letter, b',', rest @ ..] => command_of(*letter as char, Some(rest)),
+        [letter] => command_of(*letter as char, None),
         _ => Err(Refusal::NoLetter),
     }
 }

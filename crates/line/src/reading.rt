@@ -1,103 +1,70 @@
-ghost use Rattle.std.specs.Prelude.{◌≡◌, ℕ, ◌+◌, ◌^◌, ◌<◌, ◌≤◌, [], length, MatchOption, slice_index};
-ghost use Rattle.std.specs.Option.{option_map};
-ghost use Rattle.line.specs.Fields.{fields, left, Handed, NoComma};
-ghost use Rattle.std.specs.Iterator.{at_most};
+ghost use Rattle.std.specs.Prelude.{◌≡◌, ◌+◌, ◌^◌, ◌<◌, ◌==◌, ◌∷◌, length, position, IfSome};
+ghost use Rattle.std.specs.Option.{ForSome};
+ghost use Rattle.std.specs.Iterator.{item_count, YieldsFirstBy};
+ghost use Rattle.line.specs.Fields.{fields, fields_left, left, placed};
 
 use crate::{Field, Fields};
 
 /// The place of the first comma.
 fn comma(text: &[u8]) -> Option<usize>
-    ensures { MatchOption result (NoComma text.now (length text.now)) (λ i. (i < length text.now) × (slice_index text.now i ≡ 44) × NoComma text.now i) }
+    ensures { result ≡ position (λ b. b == 44) text.now }
 {
-    for (i, b) in text.iter().enumerate() {
-        if *b == b',' {
-            return Some(i);
-        }
+    text.iter().position(|b| *b == b',')
+}
+
+/// The first field of a line, and what stands after its comma, if it has one.
+fn cut(line: &[u8]) -> (&[u8], Option<&[u8]>)
+    ensures fields { fields line.now ≡ result.0.now ∷ fields_left result.1 }
+    ensures shorter { ForSome result.1 (λ rest. length rest.now < length line.now) }
+{
+    match comma(line) {
+        Some(i) => (&line[..i], Some(&line[i + 1..])),
+        None => (line, None),
     }
-    None
 }
 
 impl<'a> Fields<'a> {
     /// All fields of a line.
     pub fn new(line: &'a [u8]) -> Fields<'a>
-        ensures fields { left result.more result.rest.now ≡ fields line.now }
-        ensures place { result.place ≡ 0 }
+        ensures { left result.rest ≡ placed 0 (fields line.now) }
     {
         Fields {
-            rest: line,
-            more: true,
-            place: 0,
+            rest: Some((0, line)),
         }
     }
 
-    /// The fields after a line's letter and the comma that follows it.
-    pub(super) fn after_letter(rest: &'a [u8]) -> Fields<'a>
-        ensures fields { left result.more result.rest.now ≡ fields rest.now }
-        ensures place { result.place ≡ 1 }
+    /// The fields after a line's letter, from what stands after the letter's comma, if it has one.
+    pub(super) fn after_letter(rest: Option<&'a [u8]>) -> Fields<'a>
+        ensures fields { left result.rest ≡ placed 1 (fields_left rest.entry) }
+        ensures place { IfSome result.rest (λ r. r.0 ≡ 1) }
     {
         Fields {
-            rest,
-            more: true,
-            place: 1,
-        }
-    }
-
-    /// The fields after the letter of a line that is a letter alone: none.
-    pub(super) fn none_after(line: &'a [u8]) -> Fields<'a>
-        ensures fields { left result.more result.rest.now ≡ [] }
-        ensures place { result.place ≡ 1 }
-    {
-        Fields {
-            rest: line,
-            more: false,
-            place: 1,
+            rest: rest.map(|text| (1, text)),
         }
     }
 
     /// How many fields are left.
     pub fn remaining(self) -> usize
-        ensures value { result ≡ length (left self.entry.more self.entry.rest.now) }
-        ensures fits { result + self.entry.place < 2 ^ 64 }
+        ensures value { result ≡ length (left self.entry.rest) }
+        ensures fits { IfSome self.entry.rest (λ r. r.0 + result < 2 ^ 64) }
     {
-        let mut n = 0;
-        for _ in self {
-            n += 1;
-        }
-        n
+        self.count()
     }
 }
 
 impl<'a> Iterator for Fields<'a> {
     type Item = Field<'a>;
 
-    ghost next_gives = { λ s r t. Handed s.place (left s.more s.rest.now) (option_map (λ f. (f.place, f.text.now)) r) t.place (left t.more t.rest.now) };
+    ghost next_gives = { YieldsFirstBy (λ f. (f.place, f.text.now)) (λ s. left s.rest) };
 
-    ghost remaining = { λ s. at_most (length (left s.more s.rest.now)) };
+    ghost remaining = { item_count (λ s. left s.rest) };
 
     fn next(&mut self) -> Option<Field<'a>> {
-        if !self.more {
-            return None;
-        }
-        let place = self.place;
-        let rest = self.rest;
-        match comma(rest) {
-            Some(i) => {
-                let (text, after) = rest.split_at(i);
-                *self = Fields {
-                    rest: &after[1..],
-                    more: true,
-                    place: place + 1,
-                };
-                Some(Field { place, text })
-            }
-            None => {
-                *self = Fields {
-                    rest: &rest[0..0],
-                    more: false,
-                    place: place + 1,
-                };
-                Some(Field { place, text: rest })
-            }
-        }
+        let (place, line) = self.rest?;
+        let (text, after) = cut(line);
+        *self = Fields {
+            rest: after.map(|rest| (place + 1, rest)),
+        };
+        Some(Field { place, text })
     }
 }

@@ -1,8 +1,8 @@
 -- Entries by label.
-use Rattle.std.proofs.Common.{◌≡◌, ℕ, zero, suc, ◌+◌, ◌<◌, Bool, true, false, cond, eqb, List, length, get_or, set, replicate, is_some as option_is_some, Some, None, Option, sym, refl, ap, ◌∙◌, ⊎_elim, arith, get_or-set_other, get_or-set_same}
+use Rattle.std.proofs.Common.{◌≡◌, ℕ, zero, suc, ◌+◌, ◌<◌, ◌≤◌, Bool, true, false, cond, eqb, List, length, get_or, set, replicate, Some, None, Option, sym, refl, ap, ◌∙◌, ⊎_elim, arith, get_or-set_other, get_or-set_same}
 use Rattle.std.proofs.lemmas.Bool.{cases_eq, cond-false, cond-true, eq-eqb, ne_eqb}
-use Rattle.std.specs.Option.{option_map}
-use Rattle.semantics.specs.Causes.{first_such, is_some}
+use Rattle.std.specs.Option.{option_map, MatchOption}
+use Rattle.semantics.specs.Causes.{first_such}
 use Rattle.semantics.specs.Decomposing.{upfrom}
 
 pub blank_at : {X : Type 0} (n : ℕ) (x : X) (i : ℕ) → get_or (replicate n x) i x ≡ x
@@ -20,14 +20,15 @@ pub mapped_cond : {X Y : Type 0} (h : X → Y) (b : Bool) (x : X) (o : Option X)
 mapped_cond h true x o = refl
 mapped_cond h false x o = refl
 
-pub some_mapped : {X Y : Type 0} (h : X → Y) (o : Option X) → is_some (option_map h o) ≡ option_is_some o
-some_mapped h None = refl
-some_mapped h (Some x) = refl
-
--- the search goes on, or ends here
-pub such_here : (test : ℕ → Bool) (k n left : ℕ) → left ≡ suc n → test k ≡ true → first_such test (upfrom k left) ≡ Some k
-such_here test k n left e h = ap (λ j. first_such test (upfrom k j)) e ∙ cond-true (test k) _ _ h
-
-pub such_next : (test : ℕ → Bool) (k n left : ℕ) → left ≡ suc n → test k ≡ false → first_such test (upfrom k left) ≡ first_such test (upfrom (k + 1) n)
-such_next test k n left e h =
-    ap (λ j. first_such test (upfrom k j)) e ∙ cond-false (test k) _ _ h ∙ ap (λ j. first_such test (upfrom j n)) (omega arith)
+-- what no number from k up to `end` passes, and the first that passes, is what the search finds
+pub such_from : (test : ℕ → Bool) (k n end : ℕ) (r : Option ℕ) → k + n ≡ end
+    → MatchOption r ((i : ℕ) → k ≤ i → i < end → test i ≡ false) (λ i. (k ≤ i) × (i < end) × (test i ≡ true) × ((j : ℕ) → k ≤ j → j < i → test j ≡ false))
+    → r ≡ first_such test (upfrom k n)
+such_from test k zero end None e h = refl
+such_from test k zero end (Some i) e h = absurd (omega arith)
+such_from test k (suc n) end None e h =
+    sym (cond-false (test k) _ _ (h k (omega arith) (omega arith)) ∙ sym (such_from test (suc k) n end None (omega arith) (λ i a b. h i (omega arith) b)))
+such_from test k (suc n) end (Some i) e h = ⊎_elim
+    (λ (q : i ≡ k). sym (cond-true (test k) _ _ (ap test (sym q) ∙ h.2) ∙ ap Some (sym q)))
+    (λ d. sym (cond-false (test k) _ _ (h.3 k (omega arith) (omega arith)) ∙ sym (such_from test (suc k) n end (Some i) (omega arith) (omega arith, h.1, h.2, λ j a b. h.3 j (omega arith) b))))
+    (cases_eq i k)

@@ -3,4 +3,3 @@ pub mod Labels
 pub mod Ends
 pub mod Steps
 pub mod SmallSteps
-pub mod Parts

@@ -4,4 +4,5 @@ pub mod Ends
 pub mod Routes
 pub mod Places
 pub mod Meaning
-pub mod LinkParts
+pub mod Sides
+pub mod Linking

@@ -1,13 +1,14 @@
 //! What can be asked of a method.
 ghost use Rattle.std.specs.Prelude.{◌≡◌, ℕ, ◌<◌, ◌≤◌, length};
-ghost use Rattle.std.specs.List.{slice_get};
 ghost use Rattle.std.specs.Option.{option_map};
 ghost use Rattle.methods.specs.Ends.{SmallEnds};
 ghost use Rattle.methods.specs.Meaning.{method};
 ghost use Rattle.methods.specs.Places.{place};
 ghost use Rattle.methods.specs.Routes.{entry_step};
+ghost use Rattle.methods.specs.Sides.{goes_on};
 
 use crate::{Entry, Method};
+use page::Side;
 use semantics::Link;
 
 impl Method {
@@ -26,11 +27,11 @@ impl Method {
         self.steps.len() as u8
     }
 
-    /// The task of step `a`.
-    pub fn task_of_step(&self, a: u8) -> Option<u8>
-        ensures { result ≡ slice_get (method self.now).steps a }
+    /// The tasks of the steps, by the steps' numbers.
+    pub fn steps(&self) -> &[u8]
+        ensures { result.now ≡ (method self.now).steps }
     {
-        self.steps.get(a as usize)
+        self.steps.as_slice()
     }
 
     /// The links of the method.
@@ -48,19 +49,11 @@ impl Method {
         self.order.before(a, b)
     }
 
-    /// Where need `j` of the method's task goes.
-    pub fn need_goes(&self, j: u8) -> Option<Entry>
-        ensures item { option_map place result ≡ (method self.now).needs_go j }
+    /// Where a need or an add of the method's task goes.
+    pub fn goes(&self, side: Side, label: u8) -> Option<Entry>
+        ensures item { option_map place result ≡ goes_on side (method self.now) label }
         ensures small { entry_step result < 8 }
     {
-        self.needs.get(j)
-    }
-
-    /// Where add `i` of the method's task goes.
-    pub fn add_goes(&self, i: u8) -> Option<Entry>
-        ensures item { option_map place result ≡ (method self.now).adds_go i }
-        ensures small { entry_step result < 8 }
-    {
-        self.adds.get(i)
+        self.entries(side).get(label)
     }
 }

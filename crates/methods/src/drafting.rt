@@ -7,7 +7,6 @@ ghost use Rattle.semantics.specs.OpenLines.{order_causes, step_causes};
 ghost use Rattle.domain.specs.Meaning.{tasks};
 ghost use Rattle.methods.specs.Meaning.{method};
 
-use crate::ordering::MOST_STEPS;
 use crate::{Entries, Method, SmallOrder};
 use domain::{Tasks, is_init_or_goal};
 use fixed::Fixed;
@@ -22,12 +21,7 @@ impl Method {
         Method {
             task,
             steps: Fixed::new(0),
-            links: Fixed::new(Link {
-                producer: 0,
-                add: 0,
-                consumer: 0,
-                need: 0,
-            }),
+            links: Fixed::new(Link::default()),
             order: SmallOrder::new(),
             needs: Entries::new(),
             adds: Entries::new(),
@@ -46,10 +40,7 @@ impl Method {
             return Err(Refusal::WrongKind);
         }
         let number = self.steps.len();
-        if number >= MOST_STEPS as usize {
-            return Err(Refusal::LimitPassed);
-        }
-        let _ = self.steps.push(task);
+        self.steps.push(task)?;
         Ok(number as u64)
     }
 

@@ -1,5 +1,8 @@
 ghost use Rattle.std.specs.Prelude.{◌≡◌, length};
 
+/// Labels are the numbers below this one.
+pub const LABELS: usize = 32;
+
 /// Where a need or an add of a method's task goes: to a need or an add of a step of the method, by its label.
 #[derive(Clone, Copy, PartialEq, Eq, Debug)]
 pub struct Entry {
@@ -10,6 +13,6 @@ pub struct Entry {
 /// Where the needs or the adds of a method's task go, by their labels: for each at most one entry.
 #[derive(Clone, Copy)]
 pub struct Entries {
-    pub(super) places: [Option<Entry>; 32],
+    pub(super) places: [Option<Entry>; LABELS],
     ghost whole: { length places ≡ 32 },
 }

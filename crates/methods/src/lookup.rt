@@ -1,38 +1,25 @@
 //! What the fields of a method's lines name.
-ghost use Rattle.std.specs.Prelude.{◌≡◌, ℕ, ◌<◌, true, map, length, is_some, Some, nat_lt};
+ghost use Rattle.std.specs.Prelude.{◌≡◌, ℕ, ◌<◌, ◌≤◌, true, map, is_some, Some};
 ghost use Rattle.std.specs.List.{slice_get};
 ghost use Rattle.std.specs.Option.{option_map};
-ghost use Rattle.fixed.specs.Items.{items};
 ghost use Rattle.semantics.specs.Methods.{own_task_of};
 ghost use Rattle.semantics.specs.OpenLines.{is_step};
-ghost use Rattle.semantics.specs.Tasks.{adds_of, is_primitive, needs_of};
-ghost use Rattle.domain.specs.Meaning.{task, tasks};
+ghost use Rattle.semantics.specs.Tasks.{is_primitive};
+ghost use Rattle.domain.specs.Meaning.{facts, task, tasks};
 ghost use Rattle.methods.specs.Meaning.{method};
+ghost use Rattle.methods.specs.Sides.{facts_on};
 
 use crate::Method;
-use domain::{Task, Tasks};
+use domain::{FactList, Task, Tasks};
+use page::Side;
 
-/// The fact of a need of a task that may be none.
-fn need_of(known: Option<&Task>, label: u8) -> Option<u8>
-    ensures fact { result ≡ slice_get (needs_of (option_map (λ x. task x.now) known.entry)) label }
-    ensures named { is_some result ≡ nat_lt label (length (needs_of (option_map (λ x. task x.now) known.entry))) }
-    ensures small { is_some result ≡ true → label < 32 }
+/// The facts on that side of a task, which entries and links name by their labels.
+pub fn labelled(known: &Task, side: Side) -> &FactList
+    ensures { facts result.now ≡ facts_on side (Some (task known.now)) }
 {
-    match known {
-        Some(t) => t.need(label),
-        None => None,
-    }
-}
-
-/// The fact of an add of a task that may be none.
-fn add_of(known: Option<&Task>, label: u8) -> Option<u8>
-    ensures fact { result ≡ slice_get (adds_of (option_map (λ x. task x.now) known.entry)) label }
-    ensures named { is_some result ≡ nat_lt label (length (adds_of (option_map (λ x. task x.now) known.entry))) }
-    ensures small { is_some result ≡ true → label < 32 }
-{
-    match known {
-        Some(t) => t.add(label),
-        None => None,
+    match side {
+        Side::Need => known.needs(),
+        Side::Add => known.adds(),
     }
 }
 
@@ -49,53 +36,28 @@ impl Method {
     pub(super) fn own_task<'a>(&self, known: &'a Tasks, s: u8) -> Option<&'a Task>
         ensures { option_map (λ x. task x.now) result ≡ own_task_of (tasks known.now) (method self.now) s }
     {
-        match self.steps.get(s as usize) {
-            Some(t) => known.task(t),
-            None => None,
-        }
+        known.task(self.steps.get(s as usize)?)
     }
 
     /// Whether the task of step `s` is primitive.
     pub(super) fn is_primitive_step(&self, known: &Tasks, s: u8) -> bool
         ensures { result ≡ is_primitive (own_task_of (tasks known.now) (method self.now) s) }
     {
-        match self.own_task(known, s) {
-            Some(t) => t.is_primitive(),
-            None => false,
-        }
+        self.own_task(known, s).is_some_and(|t| t.is_primitive())
     }
 
-    /// The fact of a need of step `s`.
-    pub(super) fn step_need(&self, known: &Tasks, s: u8, label: u8) -> Option<u8>
-        ensures fact { result ≡ slice_get (needs_of (own_task_of (tasks known.now) (method self.now) s)) label }
-        ensures named { is_some result ≡ nat_lt label (length (needs_of (own_task_of (tasks known.now) (method self.now) s))) }
+    /// The fact with this label on a side of step `s`.
+    pub(super) fn step_fact(&self, known: &Tasks, s: u8, side: Side, label: u8) -> Option<u8>
+        ensures { result ≡ slice_get (facts_on side (own_task_of (tasks known.now) (method self.now) s)) label }
     {
-        need_of(self.own_task(known, s), label)
+        labelled(self.own_task(known, s)?, side).get(label)
     }
 
-    /// The fact of an add of step `s`.
-    pub(super) fn step_add(&self, known: &Tasks, s: u8, label: u8) -> Option<u8>
-        ensures fact { result ≡ slice_get (adds_of (own_task_of (tasks known.now) (method self.now) s)) label }
-        ensures named { is_some result ≡ nat_lt label (length (adds_of (own_task_of (tasks known.now) (method self.now) s))) }
-    {
-        add_of(self.own_task(known, s), label)
-    }
-
-    /// The fact of a need of the method's task.
-    pub(super) fn task_need(&self, known: &Tasks, label: u8) -> Option<u8>
-        ensures fact { result ≡ slice_get (needs_of (slice_get (tasks known.now) self.now.task)) label }
-        ensures named { is_some result ≡ nat_lt label (length (needs_of (slice_get (tasks known.now) self.now.task))) }
+    /// The fact with this label on a side of the method's task.
+    pub(super) fn task_fact(&self, known: &Tasks, side: Side, label: u8) -> Option<u8>
+        ensures fact { result ≡ slice_get (facts_on side (slice_get (tasks known.now) self.now.task)) label }
         ensures small { is_some result ≡ true → label < 32 }
     {
-        need_of(known.task(self.task), label)
-    }
-
-    /// The fact of an add of the method's task.
-    pub(super) fn task_add(&self, known: &Tasks, label: u8) -> Option<u8>
-        ensures fact { result ≡ slice_get (adds_of (slice_get (tasks known.now) self.now.task)) label }
-        ensures named { is_some result ≡ nat_lt label (length (adds_of (slice_get (tasks known.now) self.now.task))) }
-        ensures small { is_some result ≡ true → label < 32 }
-    {
-        add_of(known.task(self.task), label)
+        labelled(known.task(self.task)?, side).get(label)
     }
 }

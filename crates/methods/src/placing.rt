@@ -1,32 +1,29 @@
 //! Entries by label.
-ghost use Rattle.std.specs.Prelude.{◌≡◌, ℕ, ◌<◌, ◌≤◌, not, None};
+ghost use Rattle.std.specs.Prelude.{◌≡◌, ℕ, ◌<◌, ◌≤◌, is_some, not, None};
 ghost use Rattle.std.specs.Option.{option_map};
-ghost use Rattle.semantics.specs.Causes.{first_such, is_some};
+ghost use Rattle.semantics.specs.Causes.{first_such};
 ghost use Rattle.semantics.specs.Decomposing.{upfrom};
 ghost use Rattle.semantics.specs.Methods.{entered};
 ghost use Rattle.methods.specs.Places.{going, place};
 
+use crate::entries::LABELS;
 use crate::{Entries, Entry};
-
-/// Labels are the numbers below this one.
-const LABELS: u8 = 32;
 
 impl Entries {
     /// No entry.
     pub fn new() -> Entries
         ensures { going result ≡ (λ j. None) }
     {
-        Entries { places: [None; 32] }
+        Entries {
+            places: [None; LABELS],
+        }
     }
 
     /// Where a label goes.
     pub fn get(&self, label: u8) -> Option<Entry>
         ensures { option_map place result ≡ going self.now label }
     {
-        if label >= LABELS {
-            return None;
-        }
-        self.places[label as usize]
+        *self.places.get(label as usize)?
     }
 
     /// Whether a label has an entry.
@@ -48,11 +45,6 @@ impl Entries {
     pub fn missing(&self, count: u8) -> Option<u8>
         ensures { result ≡ first_such (λ k. not (is_some (going self.now k))) (upfrom 0 count) }
     {
-        for label in 0..count {
-            if !self.has(label) {
-                return Some(label);
-            }
-        }
-        None
+        (0..count).find(|label| !self.has(*label))
     }
 }

@@ -1,7 +1,6 @@
 -- A page on which one text is written after another.
-use Rattle.std.proofs.Common.{◌≡◌, ℕ, ◌+◌, ◌/◌, ◌%◌, ◌^◌, ◌<◌, ◌≤◌, List, [], ◌∷◌, ◌++◌, length, take, drop, set, decimal, sym, ap, ◌∙◌, append_assoc, add_assoc, add-one, arith, length-append, length-drop}
+use Rattle.std.proofs.Common.{◌≡◌, ℕ, ◌+◌, ◌<◌, ◌≤◌, List, [], ◌∷◌, ◌++◌, length, take, drop, set, sym, ap, ◌∙◌, append_assoc, add_assoc, add-one, arith, length-append, length-drop}
 use Rattle.std.proofs.lemmas.List.{set_split, take_at, drop_at, drop-drop, length-take-le}
-use Rattle.std.proofs.lemmas.Fmt.{decimal_digit, decimal_step}
 use Rattle.page.specs.Rows.{number_text, row_text, written}
 use Rattle.page.specs.declared.answer.Row.{Row}
 use Rattle.page.proofs.Lengths.{length_parts}

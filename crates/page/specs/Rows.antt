@@ -6,6 +6,10 @@ use Rattle.page.specs.declared.answer.Row.{Row}
 abbrev pub number_text : ℕ → ℕ → List ℕ
 number_text n after = decimal n ++ (after ∷ [])
 
+-- code,a,b,c in decimal, with commas between them
+abbrev pub numbers_text : Row → List ℕ
+numbers_text r = decimal r.code ++ (44 ∷ (decimal r.a ++ (44 ∷ (decimal r.b ++ (44 ∷ decimal r.c)))))
+
 -- code,a,b,c in decimal, with commas (44) between them and CR LF (13 10) at the end
 abbrev pub row_text : Row → List ℕ
 row_text r = number_text r.code 44 ++ (number_text r.a 44 ++ (number_text r.b 44 ++ (number_text r.c 13 ++ (10 ∷ []))))

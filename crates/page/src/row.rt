@@ -2,11 +2,12 @@
 ghost use Rattle.std.specs.Prelude.{◌≡◌, ◌+◌, ◌<◌, ◌≤◌, length, if◌then◌else◌, Some, None, MatchOption};
 ghost use Rattle.page.specs.Answers.{as_row, refusal_row, row, side_number, unread};
 ghost use Rattle.page.specs.declared.answer.Refusal.TheVariants as refused;
-ghost use Rattle.page.specs.Rows.{fits, number_text, row_text, written};
+ghost use Rattle.page.specs.Rows.{fits, number_text, numbers_text, row_text, written};
 
 use crate::answer::{Answer, Refusal, Row, Side};
 use fixed::Full;
 use itoa::Buffer;
+use std::fmt;
 
 /// No row is longer than this, so where this much is free, any row can be written.
 const ROW_ROOM: usize = 28;
@@ -106,6 +107,15 @@ impl From<Side> for u8 {
             Side::Need => 0,
             Side::Add => 1,
         }
+    }
+}
+
+/// The row's four numbers with commas between them, and no break.
+impl fmt::Display for Row {
+    ghost output = { λ r. Some (numbers_text r) };
+
+    fn fmt<W: fmt::Write>(&self, f: &mut fmt::Formatter<W>) -> fmt::Result {
+        write!(f, "{},{},{},{}", self.code, self.a, self.b, self.c)
     }
 }
 

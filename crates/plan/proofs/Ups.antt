@@ -1,10 +1,8 @@
 -- Loops that go up the steps of a plan, or up the labels of a list, until something is found.
-use Rattle.std.proofs.Common.{◌≡◌, ℕ, zero, suc, ◌+◌, ◌-◌, ◌<◌, Bool, true, false, cond, not, List, [], ◌∷◌, length, get_or, drop, is_some as option_is_some, Some, None, Option, sym, refl, ap, ◌∙◌, add-one, arith}
-use mathlib.Core.Bool.{false≢true}
-use Rattle.std.specs.List.{slice_get}
+use Rattle.std.proofs.Common.{◌≡◌, ℕ, suc, ◌+◌, ◌-◌, ◌<◌, Bool, true, false, cond, not, List, [], ◌∷◌, length, get_or, drop, is_some, Some, None, Option, sym, refl, ap, ◌∙◌, add-one, arith}
 use Rattle.std.proofs.lemmas.List.{at_drop_more}
 use Rattle.std.proofs.lemmas.Option.{slice_get-get_or}
-use Rattle.semantics.specs.Causes.{first_such, first_found, also, is_some}
+use Rattle.semantics.specs.Causes.{first_such, first_found, also}
 use Rattle.semantics.specs.PlanLines.{producer}
 use Rattle.semantics.specs.declared.link.Link.{Link}
 use Rattle.semantics.specs.Decomposing.{upfrom}
@@ -68,15 +66,11 @@ module _ {Y : Type 0} (F : List ℕ → Option Y) (find : ℕ → Option Y) (s :
   pub below_on : (i : ℕ) → i < n → find i ≡ None → Below F n i ≡ Below F n 0 → Below F n (i + 1) ≡ Below F n 0
   below_on i h e q = sym (next i h ∙ ap (λ o. or_find o (Below F n (i + 1))) e) ∙ q
 
--- a need with a producer, as the code finds it
-some_there : {X : Type 0} (o p : Option X) → o ≡ p → option_is_some o ≡ true → not (is_some p) ≡ false
-some_there o None e h = absurd (false≢true (sym (ap option_is_some e) ∙ h))
-some_there o (Some x) e h = refl
-
-pub unlinked_on : (ls : List Link) (s n j : ℕ) (o : Option ℕ) → j < n → o ≡ producer ls s j → option_is_some o ≡ true → Below (first_such (no_producer ls s)) n j ≡ Below (first_such (no_producer ls s)) n 0
+-- a need with a producer
+pub unlinked_on : (ls : List Link) (s n j : ℕ) (o : Option ℕ) → j < n → o ≡ producer ls s j → is_some o ≡ true → Below (first_such (no_producer ls s)) n j ≡ Below (first_such (no_producer ls s)) n 0
     → Below (first_such (no_producer ls s)) n (j + 1) ≡ Below (first_such (no_producer ls s)) n 0
 unlinked_on ls s n j o l e h q =
-    below_on (first_such (no_producer ls s)) (λ x. cond (no_producer ls s x) (Some x) None) (seeks_such (no_producer ls s)) n j l (ap (λ b. cond b (Some j) None) (some_there o (producer ls s j) e h)) q
+    below_on (first_such (no_producer ls s)) (λ x. cond (no_producer ls s x) (Some x) None) (seeks_such (no_producer ls s)) n j l (ap (λ b. cond b (Some j) None) (ap not (sym (ap is_some e) ∙ h))) q
 
 -- seeking what is found for a step
 module _ {Y : Type 0} (find : ℕ → Option Y) (os : List (Option ℕ)) where

@@ -1,8 +1,8 @@
 -- The parts of the searches of judging: one turn of a loop, or what is found at one step. The rules themselves are in semantics,
 -- and each public function is held to those.
-use Rattle.std.specs.Prelude.{ℕ, Bool, cond, not, List, length, Some, None, Option}
+use Rattle.std.specs.Prelude.{ℕ, Bool, cond, not, List, length, Some, None, Option, is_some}
 use Rattle.std.specs.List.{slice_get}
-use Rattle.semantics.specs.Causes.{first_such, is_some}
+use Rattle.semantics.specs.Causes.{first_such}
 use Rattle.semantics.specs.Decomposing.{upfrom}
 use Rattle.semantics.specs.PlanLines.{lowest_link, producer, threatens}
 use Rattle.semantics.specs.Plans as planned

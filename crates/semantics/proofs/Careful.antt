@@ -1,11 +1,11 @@
 -- The answers of the rules are careful: what they accept is allowed, every take line that is allowed is accepted, and a threat that they name is one.
-use Rattle.std.proofs.Common.{◌≡◌, ℕ, zero, suc, ◌≤◌, Bool, true, false, not, ◌&&◌, ◌||◌, eqb, ltb, ◌⊎◌, List, [], ◌∷◌, map, length, Some, None, Option, sym, refl, ap, ◌∙◌, subst, inl, inr, ⊎_elim, arith}
+use Rattle.std.proofs.Common.{◌≡◌, ℕ, zero, suc, ◌≤◌, Bool, true, false, not, ◌&&◌, ◌||◌, eqb, ltb, ◌⊎◌, List, [], ◌∷◌, map, length, Some, None, Option, sym, refl, ap, ◌∙◌, subst, inl, inr, ⊎_elim, arith, is_some}
 use Rattle.std.proofs.lemmas.Bool.{and_from, and_parts, both_ways, cases_Bool, eq-eqb, eqb-false, ltb-true, ne_eqb, not-false, or_parts}
 use Rattle.std.specs.List.{slice_get}
 use Rattle.line.specs.declared.command.Command.{Command}
 use Rattle.line.specs.declared.command.Command.TheVariants.{AppendAdd, AppendDelete, AppendNeed, CloseMethod, Decompose, EndPhase, Judge, NewCompound, NewPrimitive, NewStep, OpenMethod, PutLink, PutOrder, RouteAdd, RouteNeed, Take}
 use Rattle.page.specs.declared.answer.Row.{Row}
-use Rattle.semantics.specs.Causes.{first_found, first_of, is_some, nameless, returned}
+use Rattle.semantics.specs.Causes.{first_found, first_of, nameless, returned}
 use Rattle.semantics.specs.Decomposing.{decompose_step, upfrom}
 use Rattle.semantics.specs.Facts.{among}
 use Rattle.semantics.specs.Methods.{own_task_of}

@@ -1,9 +1,9 @@
 -- J accepts every executable plan.
-use Rattle.std.proofs.Common.{◌≡◌, ℕ, Bool, true, false, cond, not, ◌&&◌, eqb, List, [], ◌∷◌, length, Some, None, Option, sym, refl, ap, ◌∙◌, inl, inr, arith}
+use Rattle.std.proofs.Common.{◌≡◌, ℕ, Bool, true, false, cond, not, ◌&&◌, eqb, List, [], ◌∷◌, length, Some, None, Option, sym, refl, ap, ◌∙◌, inl, inr, arith, is_some}
 use Rattle.std.proofs.lemmas.Bool.{and_from, cond-true, eq-eqb}
 use Rattle.line.specs.declared.command.Command.TheVariants.{Judge}
 use Rattle.page.specs.declared.answer.Row.{Row}
-use Rattle.semantics.specs.Causes.{also, first_found, is_some}
+use Rattle.semantics.specs.Causes.{also, first_found}
 use Rattle.semantics.specs.Decomposing.{upfrom}
 use Rattle.semantics.specs.Laws.{JudgedExactly}
 use Rattle.semantics.specs.Orders.{In}

@@ -1,9 +1,9 @@
 -- What a refusal by J or R names is the lowest.
-use Rattle.std.proofs.Common.{◌≡◌, ℕ, zero, suc, ◌<◌, ◌≤◌, Bool, true, false, cond, not, ◌&&◌, eqb, ◌⊎◌, List, [], ◌∷◌, length, Some, None, Option, sym, refl, ap, ◌∙◌, subst, subst₂, inl, inr, ⊎_elim, arith}
+use Rattle.std.proofs.Common.{◌≡◌, ℕ, zero, suc, ◌<◌, ◌≤◌, Bool, true, false, cond, not, ◌&&◌, eqb, ◌⊎◌, List, [], ◌∷◌, length, Some, None, Option, sym, refl, ap, ◌∙◌, subst, subst₂, inl, inr, ⊎_elim, arith, is_some}
 use Rattle.std.proofs.lemmas.Bool.{and_parts, both_ways, cases_order, eq-eqb, not-false, not-true}
 use Rattle.line.specs.declared.command.Command.TheVariants.{Judge, Take}
 use Rattle.page.specs.declared.answer.Row.{Row}
-use Rattle.semantics.specs.Causes.{also, first_found, first_of, first_such, is_some, nameless, returned, when}
+use Rattle.semantics.specs.Causes.{also, first_found, first_of, first_such, nameless, returned, when}
 use Rattle.semantics.specs.Decomposing.{upfrom}
 use Rattle.semantics.specs.Facts.{among}
 use Rattle.semantics.specs.Laws.{LowestNamed}

@@ -1,9 +1,9 @@
 -- What the tests and searches of the causes find.
-use Rattle.std.proofs.Common.{◌≡◌, ℕ, zero, suc, ◌<◌, Bool, true, false, cond, not, ◌&&◌, eqb, ltb, ◌⊎◌, List, [], ◌∷◌, map, length, Some, None, Option, sym, refl, ap, ◌∙◌, subst, inl, inr, ⊎_elim, arith}
+use Rattle.std.proofs.Common.{◌≡◌, ℕ, zero, suc, ◌<◌, Bool, true, false, cond, not, ◌&&◌, eqb, ltb, ◌⊎◌, List, [], ◌∷◌, map, length, Some, None, Option, sym, refl, ap, ◌∙◌, subst, inl, inr, ⊎_elim, arith, is_some}
 use Rattle.std.proofs.lemmas.Bool.{and_parts, eqb-true, ltb-true, not-false}
 use Rattle.std.specs.List.{slice_get}
 use Rattle.page.specs.declared.answer.Row.{Row}
-use Rattle.semantics.specs.Causes.{also, Cause, first_found, first_of, first_such, is_some, nameless, or_else, when}
+use Rattle.semantics.specs.Causes.{also, Cause, first_found, first_of, first_such, nameless, or_else, when}
 use Rattle.semantics.specs.Methods.{Method}
 use Rattle.semantics.specs.OpenLines.{differ, is_step, there}
 use Rattle.semantics.specs.Orders.{In}

@@ -48,7 +48,3 @@ first_found find (x ∷ xs) = also x (find x) (first_found find xs)
 abbrev pub returned : Option ℕ → Option (ℕ × ℕ × ℕ)
 returned None = None
 returned (Some x) = Some (x, 0, 0)
-
-abbrev pub is_some : {X : Type 0} → Option X → Bool
-is_some None = false
-is_some (Some x) = true

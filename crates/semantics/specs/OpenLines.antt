@@ -1,7 +1,7 @@
 -- The lines that tell methods, and steps, pairs and links of a method or a plan: their causes after the phase.
-use Rattle.std.specs.Prelude.{ℕ, Bool, true, false, not, ◌&&◌, ◌||◌, List, [], ◌∷◌, map, length, Some, None, Option, ◌==◌, nat_le, nat_lt}
+use Rattle.std.specs.Prelude.{ℕ, Bool, true, false, not, ◌&&◌, ◌||◌, List, [], ◌∷◌, map, length, Some, None, Option, ◌==◌, nat_le, nat_lt, is_some}
 use Rattle.std.specs.List.{slice_get}
-use Rattle.semantics.specs.Causes.{Cause, first_such, is_some, nameless, when}
+use Rattle.semantics.specs.Causes.{Cause, first_such, nameless, when}
 use Rattle.semantics.specs.Decomposing.{upfrom}
 use Rattle.semantics.specs.Methods.{Method, own_task_of}
 use Rattle.semantics.specs.Orders.{Relation}

@@ -1,7 +1,7 @@
 -- The lines that decompose, judge and follow a plan: their causes after the phase.
-use Rattle.std.specs.Prelude.{ℕ, ◌+◌, Bool, true, false, cond, not, ◌&&◌, ◌||◌, List, [], ◌∷◌, length, Some, None, Option, ◌==◌, nat_lt}
+use Rattle.std.specs.Prelude.{ℕ, ◌+◌, Bool, true, false, cond, not, ◌&&◌, ◌||◌, List, [], ◌∷◌, length, Some, None, Option, ◌==◌, nat_lt, is_some}
 use Rattle.std.specs.List.{slice_get}
-use Rattle.semantics.specs.Causes.{Cause, first_found, first_such, is_some, nameless, returned, when}
+use Rattle.semantics.specs.Causes.{Cause, first_found, first_such, nameless, returned, when}
 use Rattle.semantics.specs.Decomposing.{decompose_step, links_after, upfrom}
 use Rattle.semantics.specs.Facts.{among}
 use Rattle.semantics.specs.Methods.{Method}

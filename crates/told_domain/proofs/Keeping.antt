@@ -6,14 +6,18 @@ use Rattle.std.specs.List.{slice_get}
 use Rattle.std.specs.Option.{option_map}
 use Rattle.fixed.specs.Items.{items}
 use Rattle.page.specs.declared.answer.Row.{Row}
-use Rattle.semantics.specs.Causes.{told}
+use Rattle.page.specs.declared.answer.Side.{Side}
+use Rattle.page.specs.declared.answer.Side.TheVariants.{Add, Need}
+use Rattle.semantics.specs.Causes.{first_of, told}
 use Rattle.semantics.specs.Drafts.{Draft}
 use Rattle.semantics.specs.Methods as meant
 use Rattle.semantics.specs.Tasks.{Task}
 use Rattle.semantics.specs.declared.phase.Phase.{Phase}
 use Rattle.semantics.specs.declared.phase.Phase.TheVariants.{MethodOpen, Methods, Tasks}
 use Rattle.domain.specs.Meaning.{tasks}
+use Rattle.semantics.proofs.Drafting.{kept_add, kept_need}
 use Rattle.methods.specs.Meaning.{method}
+use Rattle.methods.specs.Sides.{entry_causes, with_entry}
 use Rattle.methods.specs.declared.method.Method.{Method}
 use Rattle.told_domain.specs.declared.told.Domain.{Domain}
 
@@ -91,3 +95,8 @@ pub lent : (P : Method → Type 0) (all : Option Method) (o : Option (Bor Method
     → ((m : Method) → all ≡ Some m → P m) → IfSome o (λ x. P x.now)
 lent P all None e f = tt
 lent P all (Some x) e f = f x.now (sym e)
+
+-- an entry on either side keeps what is told of the open method
+pub kept_entry : (side : Side) (ts : List Task) (m : meant.Method) (from s k : ℕ) → (first_of (entry_causes side ts m from s k) 0).code ≡ 0 → Draft ts m → Draft ts (with_entry side m from (s, k))
+kept_entry Need ts m from s k = kept_need ts m from s k 0
+kept_entry Add ts m from s k = kept_add ts m from s k 0

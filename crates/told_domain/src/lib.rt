@@ -9,6 +9,7 @@ mod method_lines;
 mod opening;
 mod phase_lines;
 mod task_lines;
+mod telling;
 mod told;
 
 pub use told::Domain;

@@ -2,16 +2,16 @@
 ghost use Rattle.std.specs.Prelude.{◌≡◌, [], ◌∷◌, ◌++◌, map, length, Some};
 ghost use Rattle.page.specs.Answers.{row};
 ghost use Rattle.semantics.specs.Causes.{first_of, told};
-ghost use Rattle.semantics.specs.Methods.{add_entry, blank, link_of, need_entry, order_of, step_of};
-ghost use Rattle.semantics.specs.OpenLines.{add_entry_causes, close_causes, link_causes, method_causes, need_entry_causes, order_causes, step_causes};
+ghost use Rattle.semantics.specs.Methods.{blank, link_of, order_of, step_of};
+ghost use Rattle.semantics.specs.OpenLines.{close_causes, link_causes, method_causes, order_causes, step_causes};
 ghost use Rattle.semantics.specs.Rules.{outside};
 ghost use Rattle.semantics.specs.declared.phase.Phase.TheVariants as at;
+ghost use Rattle.methods.specs.Sides.{entry_causes, with_entry};
 ghost use Rattle.told_domain.specs.Domains.{in_phase, parts, with_draft, with_methods};
 
 use crate::Domain;
-use crate::opening::is_accepted;
 use methods::Method;
-use page::{Answer, Refusal};
+use page::{Answer, Refusal, Side};
 use semantics::{Link, Phase};
 
 /// There are at most this many methods.
@@ -23,12 +23,11 @@ impl Domain {
         ensures answer { row result ≡ first_of ((5, outside (parts self.old).phase (at.Methods ∷ [])) ∷ method_causes (parts self.old).tasks (length (parts self.old).methods) task) (length (parts self.old).methods) }
         ensures after { parts self.new ≡ told (row result) (in_phase at.MethodOpen (with_draft (blank task) (parts self.old))) (parts self.old) }
     {
-        if self.is_outside(Phase::Methods) {
-            return Err(Refusal::WrongPhase);
-        }
-        let Some(entry) = self.known.task(task) else {
-            return Err(Refusal::NoSuchName { field: 1 });
-        };
+        self.must_be_in(Phase::Methods)?;
+        let entry = self
+            .known
+            .task(task)
+            .ok_or(Refusal::NoSuchName { field: 1 })?;
         if entry.is_primitive() {
             return Err(Refusal::WrongKind);
         }
@@ -48,9 +47,7 @@ impl Domain {
         ensures answer { row result ≡ first_of ((5, outside (parts self.old).phase (at.MethodOpen ∷ [])) ∷ step_causes (parts self.old).tasks (length (parts self.old).draft.steps) 8 task) (length (parts self.old).draft.steps) }
         ensures after { parts self.new ≡ told (row result) (with_draft (step_of (parts self.old).draft task) (parts self.old)) (parts self.old) }
     {
-        if self.is_outside(Phase::MethodOpen) {
-            return Err(Refusal::WrongPhase);
-        }
+        self.must_be_in(Phase::MethodOpen)?;
         self.draft.step(&self.known, task)
     }
 
@@ -61,9 +58,7 @@ impl Domain {
         ensures answer { row result ≡ first_of ((5, outside (parts self.old).phase (at.MethodOpen ∷ [])) ∷ order_causes (map Some (parts self.old).draft.steps) (parts self.old).draft.before earlier later) 0 }
         ensures after { parts self.new ≡ told (row result) (with_draft (order_of (parts self.old).draft earlier later) (parts self.old)) (parts self.old) }
     {
-        if self.is_outside(Phase::MethodOpen) {
-            return Err(Refusal::WrongPhase);
-        }
+        self.must_be_in(Phase::MethodOpen)?;
         self.draft.order(earlier, later)
     }
 
@@ -74,32 +69,17 @@ impl Domain {
         ensures answer { row result ≡ first_of ((5, outside (parts self.old).phase (at.MethodOpen ∷ [])) ∷ link_causes (parts self.old).tasks (map Some (parts self.old).draft.steps) (parts self.old).draft.links (parts self.old).draft.before 16 link) 0 }
         ensures after { parts self.new ≡ told (row result) (with_draft (link_of (parts self.old).tasks (parts self.old).draft link) (parts self.old)) (parts self.old) }
     {
-        if self.is_outside(Phase::MethodOpen) {
-            return Err(Refusal::WrongPhase);
-        }
+        self.must_be_in(Phase::MethodOpen)?;
         self.draft.link(&self.known, link)
     }
 
-    /// U: a need of the method's task goes to a need of a step of the method.
-    pub fn route_need(&mut self, need: u8, step: u8, label: u8) -> Answer
-        ensures answer { row result ≡ first_of ((5, outside (parts self.old).phase (at.MethodOpen ∷ [])) ∷ need_entry_causes (parts self.old).tasks (parts self.old).draft need step label) 0 }
-        ensures after { parts self.new ≡ told (row result) (with_draft (need_entry (parts self.old).draft need (step, label)) (parts self.old)) (parts self.old) }
+    /// U and V: a need or an add of the method's task goes to one of a step of the method.
+    pub fn route(&mut self, side: Side, from: u8, step: u8, label: u8) -> Answer
+        ensures answer { row result ≡ first_of ((5, outside (parts self.old).phase (at.MethodOpen ∷ [])) ∷ entry_causes side (parts self.old).tasks (parts self.old).draft from step label) 0 }
+        ensures after { parts self.new ≡ told (row result) (with_draft (with_entry side (parts self.old).draft from (step, label)) (parts self.old)) (parts self.old) }
     {
-        if self.is_outside(Phase::MethodOpen) {
-            return Err(Refusal::WrongPhase);
-        }
-        self.draft.route_need(&self.known, need, step, label)
-    }
-
-    /// V: an add of the method's task goes to an add of a step of the method.
-    pub fn route_add(&mut self, add: u8, step: u8, label: u8) -> Answer
-        ensures answer { row result ≡ first_of ((5, outside (parts self.old).phase (at.MethodOpen ∷ [])) ∷ add_entry_causes (parts self.old).tasks (parts self.old).draft add step label) 0 }
-        ensures after { parts self.new ≡ told (row result) (with_draft (add_entry (parts self.old).draft add (step, label)) (parts self.old)) (parts self.old) }
-    {
-        if self.is_outside(Phase::MethodOpen) {
-            return Err(Refusal::WrongPhase);
-        }
-        self.draft.route_add(&self.known, add, step, label)
+        self.must_be_in(Phase::MethodOpen)?;
+        self.draft.route(&self.known, side, from, step, label)
     }
 
     /// K: the open method is closed, and fits.
@@ -107,14 +87,10 @@ impl Domain {
         ensures answer { row result ≡ first_of ((5, outside (parts self.old).phase (at.MethodOpen ∷ [])) ∷ close_causes (parts self.old).tasks (parts self.old).draft) 0 }
         ensures after { parts self.new ≡ told (row result) (in_phase at.Methods (with_methods ((parts self.old).methods ++ ((parts self.old).draft ∷ [])) (parts self.old))) (parts self.old) }
     {
-        if self.is_outside(Phase::MethodOpen) {
-            return Err(Refusal::WrongPhase);
-        }
-        let answer = self.draft.close(&self.known);
-        if is_accepted(answer) {
-            let _ = self.list.push(self.draft);
-            self.phase = Phase::Methods;
-        }
-        answer
+        self.must_be_in(Phase::MethodOpen)?;
+        self.draft.close(&self.known)?;
+        self.list.push(self.draft)?;
+        self.phase = Phase::Methods;
+        Ok(0)
     }
 }

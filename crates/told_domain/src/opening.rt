@@ -1,17 +1,17 @@
 //! A domain before its first line, and whether a line is of its phase.
-ghost use Rattle.std.specs.Prelude.{◌≡◌, false, not, [], ◌∷◌, ◌==◌};
-ghost use Rattle.page.specs.Answers.{row};
+ghost use Rattle.std.specs.Prelude.{◌≡◌, true, is_ok, [], ◌∷◌};
 ghost use Rattle.semantics.specs.Methods.{blank};
-ghost use Rattle.semantics.specs.Rules.{one_of};
+ghost use Rattle.semantics.specs.Rules.{outside};
 ghost use Rattle.semantics.specs.Tasks.{first_tasks};
 ghost use Rattle.semantics.specs.declared.phase.Phase.TheVariants as at;
+ghost use Rattle.links.specs.Parts.{first_cause, refused};
 ghost use Rattle.told_domain.specs.Domains.{Parts, parts};
 
 use crate::Domain;
 use domain::Tasks;
 use fixed::Fixed;
 use methods::Method;
-use page::Answer;
+use page::Refusal;
 use semantics::Phase;
 
 impl Domain {
@@ -28,21 +28,14 @@ impl Domain {
         }
     }
 
-    /// Whether the domain is in another phase.
-    pub(super) fn is_outside(&self, phase: Phase) -> bool
-        ensures test { result ≡ not (one_of self.now.phase (phase ∷ [])) }
-        ensures same { result ≡ false → self.now.phase ≡ phase }
+    /// Whether the domain is in this phase.
+    pub(super) fn must_be_in(&self, phase: Phase) -> Result<(), Refusal>
+        ensures test { refused result ≡ first_cause ((5, outside self.now.phase (phase ∷ [])) ∷ []) }
+        ensures same { is_ok result ≡ true → self.now.phase ≡ phase }
     {
-        self.phase as u8 != phase as u8
-    }
-}
-
-/// Whether a line is accepted.
-pub fn is_accepted(answer: Answer) -> bool
-    ensures { result ≡ ((row answer).code == 0) }
-{
-    match answer {
-        Answer::Accepted { .. } => true,
-        _ => false,
+        if self.phase != phase {
+            return Err(Refusal::WrongPhase);
+        }
+        Ok(())
     }
 }

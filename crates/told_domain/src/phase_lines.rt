@@ -19,9 +19,7 @@ fn phase_after(phase: Phase) -> Option<Phase>
         Phase::Tasks => Some(Phase::Methods),
         Phase::Methods => Some(Phase::Initial),
         Phase::Initial => Some(Phase::Refine),
-        Phase::MethodOpen => None,
-        Phase::Refine => None,
-        Phase::Running => None,
+        Phase::MethodOpen | Phase::Refine | Phase::Running => None,
     }
 }
 
@@ -30,12 +28,8 @@ fn running_after(phase: Phase) -> Phase
     ensures { result ≡ started phase }
 {
     match phase {
-        Phase::Tasks => Phase::Tasks,
-        Phase::Methods => Phase::Methods,
-        Phase::Initial => Phase::Initial,
-        Phase::MethodOpen => Phase::MethodOpen,
         Phase::Refine => Phase::Running,
-        Phase::Running => Phase::Running,
+        other => other,
     }
 }
 
@@ -45,10 +39,7 @@ impl Domain {
         ensures answer { row result ≡ first_of ((5, outside (parts self.old).phase (at.Tasks ∷ at.Methods ∷ at.Initial ∷ [])) ∷ []) 0 }
         ensures after { parts self.new ≡ told (row result) (in_phase (ended (parts self.old).phase) (parts self.old)) (parts self.old) }
     {
-        let Some(phase) = phase_after(self.phase) else {
-            return Err(Refusal::WrongPhase);
-        };
-        self.phase = phase;
+        self.phase = phase_after(self.phase).ok_or(Refusal::WrongPhase)?;
         Ok(0)
     }
 

@@ -1,15 +1,16 @@
-use Rattle.std.proofs.Common.{None, sym, refl, ap, arith}
+use Rattle.std.proofs.Common.{None, sym, ap, ◌∙◌, arith}
 use Rattle.std.proofs.lemmas.List.{get_or_past}
+use Rattle.std.proofs.lemmas.Bool.Decides.{nat_tests}
 use Rattle.std.specs.Option.{option_map}
-use Rattle.methods.proofs.entries.Entries.get.Goals as goal
 use Rattle.methods.specs.Places.{going, place}
+use Rattle.methods.proofs.entries.Entries.get.Goals as goal
 
-pub returns-then-label-ge-LABELS : goal.returns-then-label-ge-LABELS
+pub returns-in_err-get : goal.returns-in_err-get
 unfolding going
-returns-then-label-ge-LABELS c =
+returns-in_err-get c =
     let self = c.args.self.now in
-    sym (ap (option_map place) (get_or_past self.places c.args.label None (omega (arith, self.whole))))
+    ap (option_map place) (c.from_residual.ensures ∙ sym (get_or_past self.places c.args.label None (grind (arith, nat_tests, self.whole, c.in_err-get.ensures.lookup))))
 
 pub returns : goal.returns
 unfolding going
-returns c = refl
+returns c = ap (option_map place) (c.in_ok-get.ensures.lookup.3.1 None)

@@ -1,4 +1,4 @@
-use Rattle.std.proofs.Common.{rules, ap, length, arith}
+use Rattle.std.proofs.Common.{rules, ap, length}
 use Rattle.page.proofs.Steps.{lines_step}
 use Rattle.page.proofs.reading.LinesIterator.next.Goals as goal
 
