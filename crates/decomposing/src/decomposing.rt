@@ -98,7 +98,7 @@ pub fn decompose<K: Keeper>(
     if task != by.task() {
         return Answer::WrongKind;
     }
-    let Some(after) = revise(target, by, s, K::steps()) else {
+    let Some(after) = revise(target, by, s, K::CAPACITY) else {
         return Answer::LimitPassed;
     };
     let Some(next) = order_after(keeper, target, domain.tasks(), by, s, &after) else {

@@ -83,7 +83,7 @@ impl BitTable {
 impl Keeper for BitTable {
     const CAPACITY: u8 = 64;
 
-    ghost capacity = { 64 };
+    ghost CAPACITY = { 64 };
 
     ghost before = { λ k. marks k.rows };
 
@@ -94,10 +94,6 @@ impl Keeper for BitTable {
     ghost passes_on = { λ k. (order_from 64 (marks k.rows) k.ok).strict.passes_on };
 
     ghost within = { λ k. (order_from 64 (marks k.rows) k.ok).within };
-
-    fn steps() -> u8 {
-        Self::CAPACITY
-    }
 
     fn new() -> BitTable {
         BitTable { rows: no_rows() }

@@ -12,15 +12,10 @@ pub trait Keeper: Sized + Drop {
     /// How many step numbers there are.
     const CAPACITY: u8;
 
-    // The capacity, for clauses and laws.
-    ghost capacity: { ℕ };
+    ghost CAPACITY: { ℕ };
 
     // Which steps are before which.
     ghost before: { Self → Relation };
-
-    /// The capacity.
-    fn steps() -> u8
-        ensures { result ≡ capacity };
 
     /// A keeper in which no step is before another.
     fn new() -> Self
@@ -33,7 +28,7 @@ pub trait Keeper: Sized + Drop {
     /// Puts `a` before `b`, with all that follows. Refused, with nothing changed, exactly when a number is at or above the
     /// capacity, `a` equals `b`, or `b` is before `a`.
     fn put(&mut self, a: u8, b: u8) -> Result<(), Refused>
-        ensures test { is_ok result ≡ can_put capacity (before self.old) a b }
+        ensures test { is_ok result ≡ can_put CAPACITY (before self.old) a b }
         ensures after { before self.new ≡ (if is_ok result then put (before self.old) a b else before self.old) }
         ensures least { is_ok result ≡ true → Smallest (before self.old) a b (before self.new) }
         ensures same { is_ok result ≡ false → self.new ≡ self.old };
@@ -46,7 +41,7 @@ pub trait Keeper: Sized + Drop {
     fn copied(&self) -> Self
         ensures { before result ≡ before self.now }
     {
-        let steps = u16::from(Self::steps());
+        let steps = u16::from(Self::CAPACITY);
         let mut copy = Self::new();
         for place in 0..steps * steps {
             let a = (place / steps) as u8;
@@ -58,11 +53,11 @@ pub trait Keeper: Sized + Drop {
         copy
     }
 
-    ghost few: { (2 ≤ capacity) × (capacity ≤ 64) };
+    ghost few: { (2 ≤ CAPACITY) × (CAPACITY ≤ 64) };
 
     ghost never_itself: { (k : Self) (x : ℕ) → Holds (before k) x x → ⊥ };
 
     ghost passes_on: { (k : Self) (x y z : ℕ) → Holds (before k) x y → Holds (before k) y z → Holds (before k) x z };
 
-    ghost within: { (k : Self) (x y : ℕ) → Holds (before k) x y → (x < capacity) × (y < capacity) };
+    ghost within: { (k : Self) (x y : ℕ) → Holds (before k) x y → (x < CAPACITY) × (y < CAPACITY) };
 }

@@ -167,7 +167,7 @@ impl PairList {
 impl Keeper for PairList {
     const CAPACITY: u8 = 32;
 
-    ghost capacity = { 32 };
+    ghost CAPACITY = { 32 };
 
     ghost before = { λ k. closure (take k.count k.pairs) };
 
@@ -178,10 +178,6 @@ impl Keeper for PairList {
     ghost passes_on = { λ k. (stored_from 32 (take k.count k.pairs) k.ok).order.strict.passes_on };
 
     ghost within = { λ k. (stored_from 32 (take k.count k.pairs) k.ok).order.within };
-
-    fn steps() -> u8 {
-        Self::CAPACITY
-    }
 
     fn new() -> PairList {
         PairList::empty()

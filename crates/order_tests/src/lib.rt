@@ -148,7 +148,7 @@ mod tests {
 
     fn past<K: Keeper>(rt: &impl Abort) -> Result<(), Fail> {
         let mut keeper = K::new();
-        let over = K::steps();
+        let over = K::CAPACITY;
         assert_eq!(rt; keeper.put(over, 0), Err(Refused));
         assert_eq!(rt; keeper.put(0, over), Err(Refused));
         assert_eq!(rt; keeper.put(255, 254), Err(Refused));

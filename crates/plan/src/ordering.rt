@@ -36,7 +36,7 @@ impl Plan {
             return Answer::WrongKind;
         }
         let number = self.given();
-        if number >= K::steps() {
+        if number >= K::CAPACITY {
             return Answer::LimitPassed;
         }
         put_between(keeper, number);

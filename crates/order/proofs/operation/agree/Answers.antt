@@ -11,18 +11,18 @@ returns-then-apply g c =
     let R = m.before c.args.one.now in
     let S = n.before c.args.other.now in
     let os = c.args.operations.now in
-    let stop : false ≡ same_answers m.capacity n.capacity R S os =
-    agree_stop m.capacity n.capacity _ _ os c.loop-operation.operation-index c.loop-operation-test.true _ c.loop-operation.invariant
+    let stop : false ≡ same_answers m.CAPACITY n.CAPACITY R S os =
+    agree_stop m.CAPACITY n.CAPACITY _ _ os c.loop-operation.operation-index c.loop-operation-test.true _ c.loop-operation.invariant
     _ _ _ _ c.apply.ensures c.apply-in-loop-operation.ensures c.if-apply.true in
     record {
       is = stop;
-      equal = λ e f. stop ∙ same_capacity m.capacity n.capacity R S os e f;
-      below = λ l k f. stop ∙ low_alike m.capacity n.capacity R S os l k f;
+      equal = λ e f. stop ∙ same_capacity m.CAPACITY n.CAPACITY R S os e f;
+      below = λ l k f. stop ∙ low_alike m.CAPACITY n.CAPACITY R S os l k f;
     }
 
 pub loop-operation-preserved : goal.loop-operation-preserved
 loop-operation-preserved g c =
-    agree_turn g.K.Keeper.capacity g.L.Keeper.capacity _ _ c.args.operations.now c.loop-operation.operation-index c.loop-operation-test.true _ c.loop-operation.invariant
+    agree_turn g.K.Keeper.CAPACITY g.L.Keeper.CAPACITY _ _ c.args.operations.now c.loop-operation.operation-index c.loop-operation-test.true _ c.loop-operation.invariant
     _ _ _ _ c.apply.ensures c.apply-in-loop-operation.ensures c.if-apply.false
 
 pub returns : goal.returns
@@ -31,7 +31,7 @@ returns g c =
     let n = g.L.Keeper in
     let os = c.args.operations.now in
     record {
-      is = sym (at_drop_all (same_answers m.capacity n.capacity (m.before c.loop-operation.one) (n.before c.loop-operation.other)) os c.loop-operation.operation-index
+      is = sym (at_drop_all (same_answers m.CAPACITY n.CAPACITY (m.before c.loop-operation.one) (n.before c.loop-operation.other)) os c.loop-operation.operation-index
           c.loop-operation-test.false) ∙ c.loop-operation.invariant;
       equal = λ e f. refl;
       below = λ l k f. refl;

@@ -8,7 +8,7 @@ use Rattle.semantics.specs.Orders.{Relation}
 pub returns-in_err-put : goal.returns-in_err-put
 returns-in_err-put g c =
     let m = g.K.Keeper in
-    let n = m.capacity in
+    let n = m.CAPACITY in
     let ps = c.args.pairs.now in
     let R = m.before c.args.keeper.now in
     let S = m.before c.put.new.self in
@@ -23,13 +23,13 @@ pub loop-pair-preserved : goal.loop-pair-preserved
 loop-pair-preserved g c =
     let m = g.K.Keeper in
     let told = c.in_ok-put.ensures in
-    put_turn m.capacity (m.before c.loop-pair.keeper) (m.before c.put.new.self) c.args.pairs.now c.loop-pair.pair-index c.loop-pair-test.true
-    (put_each m.capacity (m.before c.args.keeper.now) c.args.pairs.now) c.loop-pair.invariant told.test told.after
+    put_turn m.CAPACITY (m.before c.loop-pair.keeper) (m.before c.put.new.self) c.args.pairs.now c.loop-pair.pair-index c.loop-pair-test.true
+    (put_each m.CAPACITY (m.before c.args.keeper.now) c.args.pairs.now) c.loop-pair.invariant told.test told.after
 
 pub returns : goal.returns
 returns g c =
     let m = g.K.Keeper in
-    let n = m.capacity in
+    let n = m.CAPACITY in
     let ps = c.args.pairs.now in
     let R = m.before c.args.keeper.now in
     let S = m.before c.loop-pair.keeper in

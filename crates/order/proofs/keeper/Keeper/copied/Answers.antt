@@ -15,7 +15,7 @@ pub loop-place-preserved : goal.loop-place-preserved
 loop-place-preserved g c =
     let m = g.Self.Keeper in
     let law = g.met.Self.Keeper in
-    let order : (k : g.row.Self.Denot) → Order m.capacity (m.before k) = λ k. record {
+    let order : (k : g.row.Self.Denot) → Order m.CAPACITY (m.before k) = λ k. record {
       strict = record { never_itself = law.never_itself k; passes_on = law.passes_on k };
       within = law.within k;
     } in
@@ -23,18 +23,18 @@ loop-place-preserved g c =
     let S = m.before c.loop-place.copy in
     let i = c.loop-place.place in
     let steps = c.from-steps.result in
-    let n-is : steps ≡ m.capacity = cc in
-    let a-is : i / steps ≡ i / m.capacity = ap (λ (n : ℕ). i / n) n-is in
-    let b-is : i % steps ≡ i % m.capacity = ap (λ (n : ℕ). i % n) n-is in
-    let Goal : g.row.Self.Denot → Type 0 = λ k. Partly m.capacity R (m.before k) (i + 1) in
+    let n-is : steps ≡ m.CAPACITY = cc in
+    let a-is : i / steps ≡ i / m.CAPACITY = ap (λ (n : ℕ). i / n) n-is in
+    let b-is : i % steps ≡ i % m.CAPACITY = ap (λ (n : ℕ). i % n) n-is in
+    let Goal : g.row.Self.Denot → Type 0 = λ k. Partly m.CAPACITY R (m.before k) (i + 1) in
     elim c.if-before.branch [
       | then-before w ↦
           subst Goal (sym w.copy-is)
-          (partly_put m.capacity R (order c.args.self.now) i (i / steps) (i % steps) a-is b-is S _ _ (order c.loop-place.copy) c.loop-place.invariant
+          (partly_put m.CAPACITY R (order c.args.self.now) i (i / steps) (i % steps) a-is b-is S _ _ (order c.loop-place.copy) c.loop-place.invariant
           (sym c.before-in-loop-place.ensures ∙ w.if-before.true) w.put.ensures.test w.put.ensures.after)
       | else-before w ↦
           subst Goal (sym w.copy-is)
-          (partly_skip m.capacity R (order c.args.self.now) i (i / steps) (i % steps) a-is b-is S c.loop-place.invariant
+          (partly_skip m.CAPACITY R (order c.args.self.now) i (i / steps) (i % steps) a-is b-is S c.loop-place.invariant
           (sym c.before-in-loop-place.ensures ∙ w.if-before.false))
     ]
 
@@ -43,7 +43,7 @@ returns g c =
     let m = g.Self.Keeper in
     let law = g.met.Self.Keeper in
     let k = c.args.self.now in
-    let n-is : c.from-steps.result ≡ m.capacity = cc in
-    let end : m.capacity * m.capacity ≤ c.loop-place.place = subst (λ (n : ℕ). n * n ≤ c.loop-place.place) n-is c.loop-place-test.false in
-    partly_all m.capacity (m.before k) record { strict = record { never_itself = law.never_itself k; passes_on = law.passes_on k }; within = law.within k }
+    let n-is : c.from-steps.result ≡ m.CAPACITY = cc in
+    let end : m.CAPACITY * m.CAPACITY ≤ c.loop-place.place = subst (λ (n : ℕ). n * n ≤ c.loop-place.place) n-is c.loop-place-test.false in
+    partly_all m.CAPACITY (m.before k) record { strict = record { never_itself = law.never_itself k; passes_on = law.passes_on k }; within = law.within k }
     (m.before c.loop-place.copy) c.loop-place.place end c.loop-place.invariant
