@@ -5,7 +5,7 @@ use Rattle.std.proofs.lemmas.Bool.{cases_eq, cond-true, eq-eqb, ne_eqb}
 use Rattle.std.proofs.lemmas.Bool.Decides.{nat_tests}
 use Rattle.order.specs.Puts.{can_put, nothing, Order}
 use Rattle.order.specs.Stored.{closure, onward, others, put_or_not, put_some, through}
-use Rattle.order.proofs.Copies.{free_within}
+use Rattle.order.proofs.Copying.{free_within}
 use Rattle.order.specs.Lists.{closure_has, closure_least}
 use Rattle.order.specs.Ordered.{free_put, order_dropped, same_pairs}
 use Rattle.semantics.specs.Closures.{Listed}

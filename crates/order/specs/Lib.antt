@@ -1,4 +1,5 @@
 pub mod Puts
+pub mod Copies
 pub mod Marks
 pub mod Stored
 pub mod Operations

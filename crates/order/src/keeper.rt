@@ -1,5 +1,6 @@
 //! What a keeper of an order promises.
 ghost use Rattle.std.specs.Prelude.{◌≡◌, ℕ, ◌<◌, ◌≤◌, true, false, is_ok, if◌then◌else◌};
+ghost use Rattle.order.specs.Copies.{RowCopied, Within};
 ghost use Rattle.order.specs.Puts.{can_put, nothing};
 ghost use Rattle.semantics.specs.Orders.{dropped, Holds, put, Relation, Smallest};
 
@@ -37,18 +38,24 @@ pub trait Keeper: Sized + Drop {
     fn drop_step(&mut self, a: u8)
         ensures { before self.new ≡ dropped (before self.old) a };
 
+    /// Puts the pairs of `from` that begin with `a`. If `from` has all that is kept before, it has all that is kept then.
+    fn put_row(&mut self, from: &Self, a: u8)
+        ensures { Within (before self.old) (before from.now) → RowCopied (before from.now) (before self.old) a CAPACITY (before self.new) }
+    {
+        for b in 0..Self::CAPACITY {
+            if from.before(a, b) {
+                let _ = self.put(a, b);
+            }
+        }
+    }
+
     /// A keeper of the same order.
     fn copied(&self) -> Self
         ensures { before result ≡ before self.now }
     {
-        let steps = u16::from(Self::CAPACITY);
         let mut copy = Self::new();
-        for place in 0..steps * steps {
-            let a = (place / steps) as u8;
-            let b = (place % steps) as u8;
-            if self.before(a, b) {
-                let _ = copy.put(a, b);
-            }
+        for a in 0..Self::CAPACITY {
+            copy.put_row(self, a);
         }
         copy
     }
