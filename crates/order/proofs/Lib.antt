@@ -1,4 +1,4 @@
-pub mod Tables
+pub mod Marking
 pub mod Copying
 pub mod Reached
 pub mod Pigeons

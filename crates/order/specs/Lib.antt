@@ -5,3 +5,4 @@ pub mod Stored
 pub mod Operations
 pub mod Ordered
 pub mod Lists
+pub mod Tables

@@ -3,9 +3,9 @@ use Rattle.std.specs.Prelude.{ℕ, ◌-◌, ◌^◌, cond, ◌&&◌, List, ◌==
 use Rattle.masks.specs.Bits.{bit}
 use Rattle.semantics.specs.Orders.{Relation}
 
--- x is before y where both are below 64 and row x has y
-abbrev pub marks : List ℕ → Relation
-marks rows x y = (nat_lt x 64 && nat_lt y 64) && bit (slice_index rows x) y
+-- x is before y where both are below n and row x has y
+abbrev pub marks : ℕ → List ℕ → Relation
+marks n rows x y = (nat_lt x n && nat_lt y n) && bit (slice_index rows x) y
 
 -- row x without a, and empty where x is a
 abbrev pub pruned : ℕ → ℕ → ℕ → ℕ

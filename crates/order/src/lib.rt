@@ -8,11 +8,14 @@
 mod bit_table;
 mod keeper;
 mod operation;
+mod ordering;
 mod pair_list;
 mod putting;
+mod table;
 
 pub use bit_table::BitTable;
 pub use keeper::{Keeper, Refused};
 pub use operation::{Operation, agree, apply};
 pub use pair_list::PairList;
 pub use putting::put_all;
+pub use table::Table;
