@@ -7,7 +7,7 @@ ghost use Rattle.semantics.specs.OpenLines.{order_causes, step_causes};
 ghost use Rattle.domain.specs.Meaning.{tasks};
 ghost use Rattle.methods.specs.Meaning.{method};
 
-use crate::ordering::MOST_STEPS;
+use crate::method::MOST_STEPS;
 use crate::{Entries, Method, SmallOrder};
 use domain::{Tasks, is_init_or_goal};
 use fixed::Fixed;
@@ -66,7 +66,7 @@ impl Method {
         if !self.has_step(later) {
             return Answer::NoSuchName { field: 2 };
         }
-        if !self.order.put(earlier, later) {
+        if self.order.put(earlier, later).is_err() {
             return Answer::Circle;
         }
         Answer::Accepted { number: 0 }

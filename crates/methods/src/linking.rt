@@ -11,7 +11,7 @@ ghost use Rattle.semantics.specs.Plans.{has_link, same_link, with_link};
 ghost use Rattle.domain.specs.Meaning.{tasks};
 ghost use Rattle.methods.specs.LinkParts.{end_causes, first_cause, linked_in, room_causes};
 ghost use Rattle.methods.specs.Meaning.{method};
-ghost use Rattle.methods.specs.SmallOrders.{before};
+ghost use Rattle.order.specs.Tables.{relation};
 
 use crate::{Method, SmallOrder};
 use domain::Tasks;
@@ -62,10 +62,14 @@ fn store(links: &mut Fixed<Link, 16>, l: Link, again: bool)
 /// Whether a link may join two steps. Where both are primitive, the first is before the second from then on.
 fn arrange(order: &mut SmallOrder, p: u8, q: u8, ordered: bool) -> bool
     requires { (p < 8) × (q < 8) }
-    ensures answer { result ≡ not (p == q || (ordered && before order.old q p)) }
-    ensures after { before order.new ≡ (if result && ordered then put (before order.old) p q else before order.old) }
+    ensures answer { result ≡ not (p == q || (ordered && relation order.old q p)) }
+    ensures after { relation order.new ≡ (if result && ordered then put (relation order.old) p q else relation order.old) }
 {
-    if ordered { order.put(p, q) } else { p != q }
+    if ordered {
+        order.put(p, q).is_ok()
+    } else {
+        p != q
+    }
 }
 
 impl Method {

@@ -1,17 +1,29 @@
 -- What the writes of the table do to its relation.
-use Rattle.std.proofs.Common.{◌≡◌, ℕ, ◌-◌, ◌^◌, ◌<◌, ◌≤◌, Bool, true, false, cond, not, ◌&&◌, ◌||◌, eqb, List, get_or, replicate, sym, ap, ◌∙◌, subst, arith}
+use Rattle.std.proofs.Common.{◌≡◌, ℕ, ◌-◌, ◌^◌, ◌<◌, ◌≤◌, Bool, true, false, cond, not, ◌&&◌, ◌||◌, eqb, ltb, List, length, get_or, replicate, sym, ap, ◌∙◌, subst, arith}
 use lib.Bits.{bit_and, bit_or}
 use Rattle.std.proofs.lemmas.List.{get_or-replicate}
 use Rattle.std.proofs.lemmas.Bool.{lt-ltb}
 use Rattle.std.proofs.lemmas.Bool.Decides.{nat_tests}
-use Rattle.order.specs.Marks.{marks, pruned}
+use Rattle.order.specs.Marks.{grown, marks, pruned}
 use Rattle.masks.specs.Bits.{bit}
-use Rattle.masks.specs.Rows.{grown}
 use Rattle.order.specs.Puts.{nothing, Order}
-use Rattle.masks.proofs.Bits.{bit_clear, bit_zero}
-use Rattle.masks.proofs.Rows.{grown_bit}
+use Rattle.masks.proofs.Bits.{bit_clear, bit-or, bit_pow, bit_zero, or_turned}
 use Rattle.order.specs.Ordered.{Free, order_dropped, order_nothing, order_put, same_relation}
 use Rattle.semantics.specs.Orders.{dropped, Holds, put, Relation}
+
+-- the rows below i are f of those of old, and the others are those of old
+abbrev pub Mapped : (ℕ → ℕ → ℕ) → List ℕ → List ℕ → ℕ → Type 0
+Mapped f old new i = (length new ≡ length old) × ((k : ℕ) → get_or new k 0 ≡ cond (ltb k i) (f k (get_or old k 0)) (get_or old k 0))
+
+bit_joined : (t : Bool) (row after y : ℕ) → bit (cond t (bit_or row after) row) y ≡ (bit row y || (t && bit after y))
+bit_joined true row after y = bit-or row after y
+bit_joined false row after y = or_turned false (bit row y)
+
+-- a row that has grown by b and what is after b
+grown_bit : (a b x row after y : ℕ) → bit (grown a (bit_or after (2 ^ b)) x row) y ≡ (bit row y || ((eqb x a || bit row a) && (eqb b y || bit after y)))
+grown_bit a b x row after y =
+    bit_joined (eqb x a || bit row a) row (bit_or after (2 ^ b)) y
+    ∙ ap (λ (c : Bool). bit row y || ((eqb x a || bit row a) && c)) (bit-or after (2 ^ b) y ∙ ap (λ (c : Bool). bit after y || c) (bit_pow b y) ∙ or_turned (bit after y) (eqb b y))
 
 bit_cond_and : (t : Bool) (a row y : ℕ) → y < 64 → a < 64
     → bit (cond t 0 (bit_and row (2 ^ 64 - 1 - 2 ^ a))) y ≡ (bit row y && (not t && not (eqb y a)))

@@ -6,3 +6,4 @@ pub mod Operations
 pub mod Ordered
 pub mod Lists
 pub mod Tables
+pub mod PairLists

@@ -6,6 +6,7 @@
 #![tactic(auto)]
 
 mod bit_table;
+mod following;
 mod keeper;
 mod operation;
 mod ordering;

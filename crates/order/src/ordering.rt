@@ -1,7 +1,6 @@
 //! What can be asked of a table, and how its order changes.
 ghost use Rattle.std.specs.Prelude.{◌≡◌, ℕ, ◌^◌, ◌<◌, ◌≤◌, true, false, length, is_ok, if◌then◌else◌, bit_or, slice_index};
-ghost use Rattle.masks.specs.Rows.{grown};
-ghost use Rattle.order.specs.Marks.{pruned};
+ghost use Rattle.order.specs.Marks.{grown, pruned};
 ghost use Rattle.order.specs.Puts.{can_put, nothing};
 ghost use Rattle.order.specs.Tables.{relation};
 ghost use Rattle.semantics.specs.Orders.{dropped, put, Smallest};

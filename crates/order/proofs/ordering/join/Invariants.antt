@@ -1,5 +1,5 @@
-use Rattle.masks.proofs.Rows.{Mapped}
-use Rattle.masks.specs.Rows.{grown}
+use Rattle.order.proofs.Marking.{Mapped}
+use Rattle.order.specs.Marks.{grown}
 use Rattle.order.proofs.ordering.join.Given as goal
 
 abbrev pub invariant-loop-x : goal.invariant-loop-x

@@ -1,4 +1,4 @@
-use Rattle.masks.proofs.Rows.{Mapped}
+use Rattle.order.proofs.Marking.{Mapped}
 use Rattle.order.specs.Marks.{pruned}
 use Rattle.order.proofs.ordering.prune.Given as goal
 

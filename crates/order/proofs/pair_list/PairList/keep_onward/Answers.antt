@@ -1,26 +1,19 @@
-use Rattle.std.proofs.Common.{take, sym, refl, ◌∙◌, arith}
+use Rattle.std.proofs.Common.{ℕ, List, sym, refl, ◌∙◌, ap}
 use Rattle.std.proofs.lemmas.List.{at_drop_all}
-use Rattle.order.specs.Stored.{closure, onward, put_some}
+use Rattle.order.specs.PairLists.{follows_from}
+use Rattle.order.specs.Stored.{onward, put_some}
 use Rattle.order.proofs.Drops.{onward_turn}
-use Rattle.order.specs.Lists.{stored_from}
-use Rattle.order.proofs.Room.{stored_length}
 use Rattle.order.proofs.pair_list.PairList.keep_onward.Goals as goal
 
-pub loop-i-init : goal.loop-i-init
-loop-i-init c = refl
+pub loop-pair-init : goal.loop-pair-init
+loop-pair-init c = refl
 
-pub loop-i-preserved : goal.loop-i-preserved
-loop-i-preserved c =
-    let me = c.args.self.now in
-    let ps = take me.count me.pairs in
-    let long = stored_length me.pairs me.count me.long me.room (stored_from 32 ps me.ok) in
-    onward_turn (closure (take c.loop-i.rest.count c.loop-i.rest.pairs)) c.args.a ps c.loop-i.i c.pair_at-from.result
-    (omega (arith, long, c.loop-i-test.true)) c.pair_at-from.ensures _ c.args.x _ c.store_if.ensures c.loop-i.invariant
+pub loop-pair-preserved : goal.loop-pair-preserved
+loop-pair-preserved c =
+    onward_turn (follows_from c.loop-pair.rest) c.args.a c.as_slice-pair-items.result.now c.loop-pair.pair-index _ c.loop-pair-test.true refl _
+    c.args.x _ c.store_if.ensures c.loop-pair.invariant
 
 pub returns : goal.returns
 returns c =
-    let me = c.args.self.now in
-    let ps = take me.count me.pairs in
-    let long = stored_length me.pairs me.count me.long me.room (stored_from 32 ps me.ok) in
-    let R = closure (take c.loop-i.rest.count c.loop-i.rest.pairs) in
-    sym (at_drop_all (λ l. put_some 32 R (onward c.args.a c.args.x l)) ps c.loop-i.i (omega (arith, long))) ∙ c.loop-i.invariant
+    sym (at_drop_all (λ (l : List (ℕ × ℕ)). put_some 32 (follows_from c.loop-pair.rest) (onward c.args.a c.args.x l)) c.as_slice-pair-items.result.now c.loop-pair.pair-index c.loop-pair-test.false)
+    ∙ c.loop-pair.invariant ∙ ap (λ (l : List (ℕ × ℕ)). put_some 32 (follows_from c.args.rest.now) (onward c.args.a c.args.x l)) c.as_slice-pair-items.ensures

@@ -1,21 +1,23 @@
-use Rattle.std.proofs.Common.{ℕ, ◌<◌, take, sym, subst, arith, lit<}
+use Rattle.std.proofs.Common.{ℕ, ◌<◌, sym, subst, arith, lit<}
 use lib.Bits.{bit_or}
 use Rattle.std.proofs.lemmas.Nat.{or_lt}
+use Rattle.fixed.specs.Items.{items}
 use Rattle.masks.proofs.Bits.{or_more}
+use Rattle.order.specs.PairLists.{follows_from}
 use Rattle.order.proofs.Reached.{reached, Reaching, reaching_more, reaching_none, to_follow}
-use Rattle.order.proofs.pair_list.reach.Goals as goal
+use Rattle.order.proofs.pair_list.PairList.reach.Goals as goal
 
-pub loop-count-init : goal.loop-count-init
-loop-count-init c =
-    let ps = take c.args.count c.args.pairs.now in
+pub loop-a-init : goal.loop-a-init
+loop-a-init c =
+    let ps = items c.args.self.now.pairs in
     (c.only-seen.type_inv, lit< tt, subst (λ (m : ℕ). Reaching ps c.args.a m 0) (sym c.only-seen.ensures) (reaching_none ps c.args.a))
 
-pub loop-count-preserved : goal.loop-count-preserved
-loop-count-preserved c =
-    let ps = take c.args.count c.args.pairs.now in
-    let seen = c.loop-count.seen in
-    let followed = c.loop-count.followed in
-    let inv = c.loop-count.invariant in
+pub loop-a-preserved : goal.loop-a-preserved
+loop-a-preserved c =
+    let ps = items c.args.self.now.pairs in
+    let seen = c.loop-a.seen in
+    let followed = c.loop-a.followed in
+    let inv = c.loop-a.invariant in
     let step = c.lowest-step.result in
     let here = to_follow ps c.args.a seen followed inv.2 step inv.0 inv.1 c.lowest-step.ensures.has in (
       or_lt 64 seen c.targets-seen.result inv.0 c.targets-seen.type_inv,
@@ -24,17 +26,18 @@ loop-count-preserved c =
           (reaching_more ps c.args.a seen followed inv.2 step c.targets-seen.result here.0 c.targets-seen.ensures),
     )
 
-pub loop-count-smaller : goal.loop-count-smaller
-loop-count-smaller c =
-    let ps = take c.args.count c.args.pairs.now in
-    let followed = c.loop-count.followed in
-    let inv = c.loop-count.invariant in
+pub loop-a-smaller : goal.loop-a-smaller
+loop-a-smaller c =
+    let ps = items c.args.self.now.pairs in
+    let followed = c.loop-a.followed in
+    let inv = c.loop-a.invariant in
     let step = c.lowest-step.result in
-    let here = to_follow ps c.args.a c.loop-count.seen followed inv.2 step inv.0 inv.1 c.lowest-step.ensures.has in
+    let here = to_follow ps c.args.a c.loop-a.seen followed inv.2 step inv.0 inv.1 c.lowest-step.ensures.has in
     let more : followed < bit_or followed c.only-followed.result = subst (λ (m : ℕ). followed < bit_or followed m) (sym c.only-followed.ensures) (or_more followed step here.1) in
     omega (arith, more, inv.1)
 
 pub returns-then-to_follow-eq0 : goal.returns-then-to_follow-eq0
+unfolding follows_from
 returns-then-to_follow-eq0 c =
-    let inv = c.loop-count.invariant in
-    reached (take c.args.count c.args.pairs.now) c.args.a c.loop-count.seen c.loop-count.followed inv.2 inv.0 inv.1 c.if-to_follow-eq0.true
+    let inv = c.loop-a.invariant in
+    reached (items c.args.self.now.pairs) c.args.a c.loop-a.seen c.loop-a.followed inv.2 inv.0 inv.1 c.if-to_follow-eq0.true
