@@ -1,9 +1,13 @@
-ghost use Rattle.std.specs.Prelude.{◌≡◌, ℕ, ◌<◌, ◌≤◌, true, [], ◌∷◌, ◌++◌, length, is_some, if◌then◌else◌, nat_lt, slice_set};
+ghost use Rattle.std.specs.Prelude.{◌≡◌, ℕ, ◌<◌, ◌≤◌, true, [], ◌∷◌, ◌++◌, length, is_ok, is_some, if◌then◌else◌, nat_lt, slice_set};
 ghost use Rattle.std.specs.List.{slice_get};
 ghost use Rattle.std.specs.Option.{option_map};
 ghost use Rattle.fixed.specs.Items.{items};
 
 use crate::Fixed;
+
+/// A list that has no place left.
+#[derive(Clone, Copy, PartialEq, Eq, Debug)]
+pub struct Full;
 
 impl<T: Copy, const N: usize> Fixed<T, N> {
     /// An empty list. `blank` fills the places that say nothing yet.
@@ -52,17 +56,17 @@ impl<T: Copy, const N: usize> Fixed<T, N> {
         &self.slots[..self.count as usize]
     }
 
-    /// Puts `x` at the end and answers true. A full list answers false, and stays as it is.
-    pub fn push(&mut self, x: T) -> bool
-        ensures room { result ≡ nat_lt (length (items self.old)) N }
-        ensures after { items self.new ≡ (if result then items self.old ++ (x ∷ []) else items self.old) }
+    /// Puts `x` at the end. A full list stays as it is.
+    pub fn push(&mut self, x: T) -> Result<(), Full>
+        ensures room { is_ok result ≡ nat_lt (length (items self.old)) N }
+        ensures after { items self.new ≡ (if is_ok result then items self.old ++ (x ∷ []) else items self.old) }
     {
         if self.count as usize >= N {
-            return false;
+            return Err(Full);
         }
         self.slots[self.count as usize] = x;
         self.count += 1;
-        true
+        Ok(())
     }
 
     /// Puts `x` in place of what stands at `i`. From the end on nothing changes.

@@ -4,4 +4,5 @@
 mod access;
 mod list;
 
+pub use access::Full;
 pub use list::Fixed;
