@@ -2,7 +2,7 @@
 use Rattle.std.proofs.Common.{◌≡◌, ℕ, ◌+◌, ◌<◌, ◌≤◌, Bool, true, false, cond, ◌⊎◌, sym, ◌∙◌, subst, inl, inr, ⊎_elim, arith}
 use Rattle.std.proofs.lemmas.Bool.{both_ways, cases_lt, cond-true}
 use Rattle.order.specs.Copies.{RowCopied, Within}
-use Rattle.order.specs.Puts.{can_put, nothing, Order}
+use Rattle.order.specs.Puts.{can_put, Order}
 use Rattle.order.specs.Ordered.{Free, free_put, same_pairs}
 use Rattle.semantics.specs.Orders.{Holds, put, Relation}
 use Rattle.semantics.proofs.Orders.{put_smallest}
@@ -57,12 +57,6 @@ pub record RowsCopied (R : Relation) (a : ℕ) (S : Relation) : Type 0 where
   pub rows : (x y : ℕ) → x < a → Holds R x y → Holds S x y
 
 module _ (n : ℕ) (R : Relation) (o : Order n R) where
-  pub rows_none : (S : Relation) → S ≡ nothing → RowsCopied R 0 S
-  rows_none S e = record {
-    within = λ x y h. let k : Holds nothing x y = subst (λ (Q : Relation). Holds Q x y) e h in grind arith;
-    rows = λ x y l h. let z : ⊥ = omega arith in absurd z;
-  }
-
   pub rows_more : (S T : Relation) (a : ℕ) → RowsCopied R a S → RowCopied R S a n T → RowsCopied R (a + 1) T
   rows_more S T a r c = record {
     within = c.within;

@@ -38,6 +38,8 @@ fn join(rows: &mut [u64], a: u8, after: u64)
     }
 }
 
+// Two loops, and not one that takes a closure: each closure would state again what its row function states.
+
 /// Takes the bit `a` from each row, and every bit from the row `a`.
 fn prune(rows: &mut [u64], a: u8)
     requires { a < 64 }
