@@ -1,9 +1,9 @@
 -- An order copied pair by pair.
-use Rattle.std.proofs.Common.{◌≡◌, ℕ, ◌+◌, ◌<◌, ◌≤◌, Bool, true, false, cond, ◌⊎◌, sym, ◌∙◌, subst, inl, inr, ⊎_elim, arith}
+use Rattle.std.proofs.Common.{◌≡◌, ℕ, ◌+◌, ◌<◌, Bool, true, false, cond, ◌⊎◌, sym, ◌∙◌, subst, inl, inr, ⊎_elim, arith}
 use Rattle.std.proofs.lemmas.Bool.{both_ways, cases_lt, cond-true}
 use Rattle.order.specs.Copies.{RowCopied, Within}
 use Rattle.order.specs.Puts.{can_put, Order}
-use Rattle.order.specs.Ordered.{Free, free_put, same_pairs}
+use Rattle.order.specs.Ordered.{Free, free_put}
 use Rattle.semantics.specs.Orders.{Holds, put, Relation}
 use Rattle.semantics.proofs.Orders.{put_smallest}
 
@@ -15,14 +15,6 @@ free_within n R S a b o sub h = record {
   apart = λ e. o.strict.never_itself a (subst (λ (k : ℕ). Holds R a k) (sym e) h);
   not_back = λ k. o.strict.never_itself a (o.strict.passes_on a b a h (sub b a k));
 }
-
--- a row that is not begun
-pub row_none : (R S : Relation) (a : ℕ) → Within S R → RowCopied R S a 0 S
-row_none R S a w = record { within = w; keeps = λ x y h. h; row = λ y l h. let z : ⊥ = omega arith in absurd z }
-
--- a row that is done
-pub row_all : (R S : Relation) (a n b : ℕ) (T : Relation) → n ≤ b → RowCopied R S a b T → RowCopied R S a n T
-row_all R S a n b T l r = record { within = r.within; keeps = r.keeps; row = λ y k h. r.row y (omega arith) h }
 
 module _ (n : ℕ) (R S : Relation) (a b : ℕ) (o : Order n R) (T : Relation) (r : RowCopied R S a b T) where
   -- the pair (a, b) is none of the order
@@ -55,17 +47,3 @@ module _ (n : ℕ) (R S : Relation) (a b : ℕ) (o : Order n R) (T : Relation) (
 pub record RowsCopied (R : Relation) (a : ℕ) (S : Relation) : Type 0 where
   pub within : Within S R
   pub rows : (x y : ℕ) → x < a → Holds R x y → Holds S x y
-
-module _ (n : ℕ) (R : Relation) (o : Order n R) where
-  pub rows_more : (S T : Relation) (a : ℕ) → RowsCopied R a S → RowCopied R S a n T → RowsCopied R (a + 1) T
-  rows_more S T a r c = record {
-    within = c.within;
-    rows = λ x y l h. ⊎_elim (λ w. c.keeps x y (r.rows x y w h))
-        (λ e. let h' = subst (λ (u : ℕ). Holds R u y) e h in subst (λ (u : ℕ). Holds T u y) (sym e) (c.row y (o.within x y h).1 h')) (cases x l);
-  }
-    where
-      cases : (x : ℕ) → x < a + 1 → (x < a) ⊎ (x ≡ a)
-      cases x l = ⊎_elim inl (λ k. inr (omega arith)) (cases_lt x a)
-
-  pub rows_all : (S : Relation) (a : ℕ) → n ≤ a → RowsCopied R a S → S ≡ R
-  rows_all S a l r = same_pairs S R r.within (λ x y h. r.rows x y (let w = (o.within x y h).0 in omega arith) h)

@@ -1,7 +1,7 @@
 use Rattle.std.proofs.Common.{◌≡◌, Bool, true, is_ok, sym, ◌∙◌}
 use Rattle.std.proofs.lemmas.List.{at_drop_all}
 use Rattle.order.specs.Puts.{put_each}
-use Rattle.order.proofs.Tries.{all_tries, err_not_ok, put_stop, put_turn}
+use Rattle.order.proofs.Tries.{all_tries, err_not_ok, put_stop}
 use Rattle.order.proofs.putting.put_all.Goals as goal
 use Rattle.semantics.specs.Orders.{Relation}
 
@@ -18,13 +18,6 @@ returns-in_err-put g c =
     put_stop n (m.before c.loop-pair.keeper) S ps c.loop-pair.pair-index c.loop-pair-test.true (put_each n R ps) c.loop-pair.invariant
     ok (err_not_ok c.from_residual.result c.from_residual.ensures.0) told.test told.after in
     record { puts = stop; closes = λ l. all_tries n R S ok ps stop l }
-
-pub loop-pair-preserved : goal.loop-pair-preserved
-loop-pair-preserved g c =
-    let m = g.K.Keeper in
-    let told = c.in_ok-put.ensures in
-    put_turn m.CAPACITY (m.before c.loop-pair.keeper) (m.before c.put.new.self) c.args.pairs.now c.loop-pair.pair-index c.loop-pair-test.true
-    (put_each m.CAPACITY (m.before c.args.keeper.now) c.args.pairs.now) c.loop-pair.invariant told.test told.after
 
 pub returns : goal.returns
 returns g c =

@@ -1,12 +1,9 @@
-use Rattle.std.proofs.Common.{◌+◌, sym, ◌∙◌, subst, arith}
+use Rattle.std.proofs.Common.{◌+◌, sym, ◌∙◌, subst}
 use Rattle.order.specs.Copies.{RowCopied, Within}
 use Rattle.order.specs.Puts.{Order}
-use Rattle.order.proofs.Copying.{row_all, row_none, row_put, row_skip}
+use Rattle.order.proofs.Copying.{row_put, row_skip}
 use Rattle.order.proofs.keeper.Keeper.put_row.Goals as goal
 use Rattle.order.proofs.keeper.Keeper.put_row.Goals.{else-before, then-before}
-
-pub loop-b-init : goal.loop-b-init
-loop-b-init g c = let m = g.Self.Keeper in row_none (m.before c.args.from.now) (m.before c.args.self.now) c.args.a
 
 pub loop-b-preserved : goal.loop-b-preserved
 loop-b-preserved g c =
@@ -31,9 +28,3 @@ loop-b-preserved g c =
           subst Goal (sym w.self-is)
           (λ sub. row_skip m.CAPACITY R S a b (order c.args.from.now) T (c.loop-b.invariant sub) (sym c.before-in-loop-b.ensures ∙ w.if-before.false))
     ]
-
-pub returns : goal.returns
-returns g c sub =
-    let m = g.Self.Keeper in
-    row_all (m.before c.args.from.now) (m.before c.args.self.now) c.args.a m.CAPACITY c.loop-b.b (m.before c.loop-b.self)
-    (omega (arith, c.CAPACITY-b-end.ensures, c.loop-b-test.false)) (c.loop-b.invariant sub)

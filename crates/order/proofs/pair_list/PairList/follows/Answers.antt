@@ -1,5 +1,4 @@
 use Rattle.std.proofs.Common.{sym, arith}
-use Rattle.std.proofs.lemmas.Bool.Decides.{nat_tests}
 use Rattle.order.specs.PairLists.{follows_from, list_order}
 use Rattle.semantics.proofs.Orders.{is_false}
 use Rattle.order.proofs.pair_list.PairList.follows.Goals as goal
@@ -11,6 +10,3 @@ returns-then-a-ge32 c =
     sym (is_false (follows_from me c.args.a c.args.b) (λ h.
     let w = o.within c.args.a c.args.b h in
     grind (arith, w.0, w.1, c.then-a-ge32.either, h, o.strict.never_itself c.args.a)))
-
-pub returns : goal.returns
-returns c = grind (arith, nat_tests, c.marked.ensures, c.reach.ensures c.args.b)

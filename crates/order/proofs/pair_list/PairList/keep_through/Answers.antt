@@ -1,5 +1,4 @@
-use Rattle.std.proofs.Common.{◌≡◌, ℕ, ◌+◌, List, drop, sym, refl, ◌∙◌, subst, ap}
-use Rattle.std.proofs.lemmas.List.{at_drop_all}
+use Rattle.std.proofs.Common.{◌≡◌, ◌+◌, drop, sym, refl, subst}
 use Rattle.fixed.specs.Items.{items}
 use Rattle.order.specs.PairLists.{follows_from}
 use Rattle.order.specs.Stored.{put_some, through}
@@ -7,9 +6,6 @@ use Rattle.order.proofs.Drops.{through_pass, through_turn}
 use Rattle.order.proofs.pair_list.PairList.keep_through.Goals as goal
 use Rattle.order.proofs.pair_list.PairList.keep_through.Goals.{else-to-a, then-to-a}
 use Rattle.order.specs.declared.pair_list.PairList.{PairList}
-
-pub loop-pair-init : goal.loop-pair-init
-loop-pair-init c = refl
 
 pub loop-pair-preserved : goal.loop-pair-preserved
 loop-pair-preserved c =
@@ -26,9 +22,3 @@ loop-pair-preserved c =
       | else-to-a w ↦
           subst Goal (sym w.rest-is) (through_pass R a ps i _ c.loop-pair-test.true refl whole all w.if-to-a.false c.loop-pair.invariant)
     ]
-
-pub returns : goal.returns
-returns c =
-    let all = items c.args.self.now.pairs in
-    sym (at_drop_all (λ (l : List (ℕ × ℕ)). put_some 32 (follows_from c.loop-pair.rest) (through c.args.a all l)) c.as_slice-pair-items.result.now c.loop-pair.pair-index c.loop-pair-test.false)
-    ∙ c.loop-pair.invariant ∙ ap (λ (l : List (ℕ × ℕ)). put_some 32 (follows_from c.args.rest.now) (through c.args.a all l)) c.as_slice-pair-items.ensures

@@ -1,5 +1,5 @@
-use Rattle.std.proofs.Common.{◌≡◌, ℕ, ◌<◌, List, get_or, length, take, ap, ◌∙◌, sym, subst, arith}
-use Rattle.std.proofs.lemmas.List.{take_all, take_more}
+use Rattle.std.proofs.Common.{◌≡◌, ℕ, ◌<◌, List, get_or, length, take, sym, subst, arith}
+use Rattle.std.proofs.lemmas.List.{take_more}
 use Rattle.masks.specs.Bits.{bit}
 use Rattle.order.specs.PairLists.{list_stored}
 use Rattle.order.specs.Stored.{leads}
@@ -25,8 +25,3 @@ loop-pair-preserved c =
     let i = c.loop-pair.pair-index in
     subst (λ (l : List (ℕ × ℕ)). (y : ℕ) → bit c.with_target-found.result y ≡ leads l c.args.a y) (sym (take_more ps i (0, 0) c.loop-pair-test.true))
     (targets_more (take i ps) (get_or ps i (0, 0)) c.loop-pair.found c.with_target-found.result c.args.a c.loop-pair.invariant c.with_target-found.ensures)
-
-pub returns : goal.returns
-returns c y =
-    let ps = c.as_slice-pair-items.result.now in
-    c.loop-pair.invariant y ∙ ap (λ (l : List (ℕ × ℕ)). leads l c.args.a y) (take_all c.loop-pair.pair-index ps c.loop-pair-test.false ∙ c.as_slice-pair-items.ensures)
