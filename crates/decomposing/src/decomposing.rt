@@ -39,7 +39,7 @@ fn put_brought<K: Keeper>(
     after: &Revised,
 ) -> Result<(), Refused>
     requires { places.first ≤ 64 }
-    ensures { Tried K.capacity (K.before next.old) (brought (tasks known.now) (K.before keeper.now) (items target.now.steps) (method m.now) places (items after.now.steps) (items after.now.links)) (is_ok result) (K.before next.new) }
+    ensures { Tried K.CAPACITY (K.before next.old) (brought (tasks known.now) (K.before keeper.now) (items target.now.steps) (method m.now) places (items after.now.steps) (items after.now.links)) (is_ok result) (K.before next.new) }
 {
     put_inherited(next, keeper, target, Side::Before, places)?;
     put_inherited(next, keeper, target, Side::After, places)?;
@@ -57,7 +57,7 @@ fn order_after<K: Keeper>(
     s: u8,
     after: &Revised,
 ) -> Option<K>
-    requires { Revises K.capacity (plan (K.before keeper.now) target.now) s (method m.now) (items after.now.steps) (items after.now.links) }
+    requires { Revises K.CAPACITY (plan (K.before keeper.now) target.now) s (method m.now) (items after.now.steps) (items after.now.links) }
     ensures { option_map K.before result ≡ try_all (Some (dropped (K.before keeper.now) s)) (new_pairs (tasks known.now) (plan (K.before keeper.now) target.now) s (method m.now)) }
 {
     let first = target.given();
@@ -85,7 +85,7 @@ pub fn decompose<K: Keeper>(
     s: u8,
     m: u8,
 ) -> Answer
-    ensures answer { row result ≡ first_of (decompose_causes K.capacity (parts domain.now).tasks (parts domain.now).methods (plan (K.before keeper.old) target.old) s m) (length (plan (K.before keeper.old) target.old).steps) }
+    ensures answer { row result ≡ first_of (decompose_causes K.CAPACITY (parts domain.now).tasks (parts domain.now).methods (plan (K.before keeper.old) target.old) s m) (length (plan (K.before keeper.old) target.old).steps) }
     ensures after { plan (K.before keeper.new) target.new ≡ told (row result) (decompose_with (parts domain.now).tasks (plan (K.before keeper.old) target.old) s (slice_get (parts domain.now).methods m)) (plan (K.before keeper.old) target.old) }
     ensures same { ((row result).code == 0) ≡ false → (keeper.new ≡ keeper.old) × (target.new ≡ target.old) }
 {
@@ -98,7 +98,7 @@ pub fn decompose<K: Keeper>(
     if task != by.task() {
         return Err(Refusal::WrongKind);
     }
-    let Some(after) = revise(target, by, s, K::steps()) else {
+    let Some(after) = revise(target, by, s, K::CAPACITY) else {
         return Err(Refusal::LimitPassed);
     };
     let Some(next) = order_after(keeper, target, domain.tasks(), by, s, &after) else {

@@ -22,7 +22,7 @@ fn is_beside<K: Keeper>(keeper: &K, side: Side, s: u8, x: u8) -> bool
 
 /// Puts step `x` on that side of step `y`.
 fn put_beside<K: Keeper>(next: &mut K, side: Side, x: u8, y: u8) -> Result<(), Refused>
-    ensures { Tried K.capacity (K.before next.old) (facing side ((x, y) ∷ [])) (is_ok result) (K.before next.new) }
+    ensures { Tried K.CAPACITY (K.before next.old) (facing side ((x, y) ∷ [])) (is_ok result) (K.before next.new) }
 {
     match side {
         Side::Before => next.put(x, y),
@@ -37,7 +37,7 @@ fn put_with_each<K: Keeper>(
     x: u8,
     places: Exchange,
 ) -> Result<(), Refused>
-    ensures { Tried K.capacity (K.before next.old) (facing side (to_each x (numbers places))) (is_ok result) (K.before next.new) }
+    ensures { Tried K.CAPACITY (K.before next.old) (facing side (to_each x (numbers places))) (is_ok result) (K.before next.new) }
 {
     for y in places.first..places.end {
         put_beside(next, side, x, y)?;
@@ -54,7 +54,7 @@ fn put_row<K: Keeper>(
     x: u8,
     places: Exchange,
 ) -> Result<(), Refused>
-    ensures { Tried K.capacity (K.before next.old) (inherited_by side (K.before keeper.now) places.leaving (items target.now.steps) x (numbers places)) (is_ok result) (K.before next.new) }
+    ensures { Tried K.CAPACITY (K.before next.old) (inherited_by side (K.before keeper.now) places.leaving (items target.now.steps) x (numbers places)) (is_ok result) (K.before next.new) }
 {
     if !target.is_step(x) {
         return Ok(());
@@ -73,7 +73,7 @@ pub fn put_inherited<K: Keeper>(
     side: Side,
     places: Exchange,
 ) -> Result<(), Refused>
-    ensures { Tried K.capacity (K.before next.old) (inherited side (K.before keeper.now) places.leaving (present_from 0 (items target.now.steps)) (numbers places)) (is_ok result) (K.before next.new) }
+    ensures { Tried K.CAPACITY (K.before next.old) (inherited side (K.before keeper.now) places.leaving (present_from 0 (items target.now.steps)) (numbers places)) (is_ok result) (K.before next.new) }
 {
     for x in 0..target.given() {
         put_row(next, keeper, target, side, x, places)?;

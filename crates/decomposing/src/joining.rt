@@ -18,7 +18,7 @@ use semantics::Link;
 /// Puts the pair of steps `a` and `b` of the method, if `a` is before `b` there. Its steps are numbered from `first`.
 fn put_own_pair<K: Keeper>(next: &mut K, m: &Method, first: u8, a: u8, b: u8) -> Result<(), Refused>
     requires { (first ≤ 64) × ((a < 8) × (b < 8)) }
-    ensures { Tried K.capacity (K.before next.old) (shifted first (row_pairs a ((method m.now).before a) (b ∷ []))) (is_ok result) (K.before next.new) }
+    ensures { Tried K.CAPACITY (K.before next.old) (shifted first (row_pairs a ((method m.now).before a) (b ∷ []))) (is_ok result) (K.before next.new) }
 {
     if !m.before(a, b) {
         return Ok(());
@@ -29,7 +29,7 @@ fn put_own_pair<K: Keeper>(next: &mut K, m: &Method, first: u8, a: u8, b: u8) ->
 /// Puts the pairs of the method in which step `a` is before another.
 fn put_own_row<K: Keeper>(next: &mut K, m: &Method, first: u8, a: u8) -> Result<(), Refused>
     requires { (first ≤ 64) × (a < 8) }
-    ensures { Tried K.capacity (K.before next.old) (shifted first (row_pairs a ((method m.now).before a) (upfrom 0 (length (method m.now).steps)))) (is_ok result) (K.before next.new) }
+    ensures { Tried K.CAPACITY (K.before next.old) (shifted first (row_pairs a ((method m.now).before a) (upfrom 0 (length (method m.now).steps)))) (is_ok result) (K.before next.new) }
 {
     for b in 0..m.count_steps() {
         put_own_pair(next, m, first, a, b)?;
@@ -40,7 +40,7 @@ fn put_own_row<K: Keeper>(next: &mut K, m: &Method, first: u8, a: u8) -> Result<
 /// Puts the method's own order. Its steps are numbered from `first`.
 pub fn put_own<K: Keeper>(next: &mut K, m: &Method, first: u8) -> Result<(), Refused>
     requires { first ≤ 64 }
-    ensures { Tried K.capacity (K.before next.old) (shifted first (pairs_of (method m.now))) (is_ok result) (K.before next.new) }
+    ensures { Tried K.CAPACITY (K.before next.old) (shifted first (pairs_of (method m.now))) (is_ok result) (K.before next.new) }
 {
     for a in 0..m.count_steps() {
         put_own_row(next, m, first, a)?;
@@ -72,7 +72,7 @@ fn put_link<K: Keeper>(
     steps: &Fixed<Option<u8>, 64>,
     link: Link,
 ) -> Result<(), Refused>
-    ensures { Tried K.capacity (K.before next.old) (link_pairs (tasks known.now) (items steps.now) (link ∷ [])) (is_ok result) (K.before next.new) }
+    ensures { Tried K.CAPACITY (K.before next.old) (link_pairs (tasks known.now) (items steps.now) (link ∷ [])) (is_ok result) (K.before next.new) }
 {
     if !is_primitive_at(known, steps, link.producer) {
         return Ok(());
@@ -90,7 +90,7 @@ pub fn put_links<K: Keeper>(
     steps: &Fixed<Option<u8>, 64>,
     links: &[Link],
 ) -> Result<(), Refused>
-    ensures { Tried K.capacity (K.before next.old) (link_pairs (tasks known.now) (items steps.now) links.now) (is_ok result) (K.before next.new) }
+    ensures { Tried K.CAPACITY (K.before next.old) (link_pairs (tasks known.now) (items steps.now) links.now) (is_ok result) (K.before next.new) }
 {
     for link in links {
         put_link(next, known, steps, *link)?;

@@ -64,7 +64,7 @@ fn join(out: &mut Fixed<Link, 256>, link: Link) -> bool
     if is_linked(link, out.as_slice()) {
         return true;
     }
-    out.push(link)
+    out.push(link).is_ok()
 }
 
 /// Joins a link of the plan, handed on where it is at step `s`.

@@ -15,7 +15,7 @@ pub struct Fixed<T, const N: usize> {
     ghost whole: { length slots ≡ N },
 }
 
-// By hand: `Clone` can't be derived where a struct of a type parameter has ghost fields.
+// Not derived: `Clone` is refused for a struct with a type parameter and a ghost field.
 impl<T: Copy, const N: usize> Clone for Fixed<T, N> {
     ghost is_clone = { λ old new. new ≡ old };
 

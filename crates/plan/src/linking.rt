@@ -38,7 +38,7 @@ fn with_link(found: Option<u8>, link: Link, s: u8, j: u8) -> Option<u8>
 
 /// Whether a link may join two steps. Where both are primitive, the first is before the second from then on.
 fn arrange<K: Keeper>(keeper: &mut K, p: u8, q: u8, ordered: bool) -> bool
-    ensures answer { p < K.capacity → q < K.capacity → result ≡ not (p == q || (ordered && K.before keeper.old q p)) }
+    ensures answer { p < K.CAPACITY → q < K.CAPACITY → result ≡ not (p == q || (ordered && K.before keeper.old q p)) }
     ensures after { K.before keeper.new ≡ (if result && ordered then put (K.before keeper.old) p q else K.before keeper.old) }
 {
     if ordered {
@@ -92,7 +92,7 @@ impl Plan {
 
     /// Enters a link whose ends name one fact, unless the list is full or the order has no room for it.
     fn tie<K: Keeper>(&mut self, keeper: &mut K, l: Link, ordered: bool) -> Answer
-        ensures answer { l.producer < K.capacity → l.consumer < K.capacity → row result ≡ first_of (room_causes (items self.old.links) (K.before keeper.old) 256 l ordered) 0 }
+        ensures answer { l.producer < K.CAPACITY → l.consumer < K.CAPACITY → row result ≡ first_of (room_causes (items self.old.links) (K.before keeper.old) 256 l ordered) 0 }
         ensures after { plan (K.before keeper.new) self.new ≡ told (row result) (linked_in (plan (K.before keeper.old) self.old) l ordered) (plan (K.before keeper.old) self.old) }
     {
         if !has_room(&self.links, l) {
@@ -109,7 +109,7 @@ impl Plan {
     /// then on. A link that stands already is accepted again, also on a full list. The plan has no more step numbers than the
     /// keeper.
     pub fn put_link<K: Keeper>(&mut self, keeper: &mut K, known: &Tasks, link: Link) -> Answer
-        ensures answer { length (items self.old.steps) ≤ K.capacity → row result ≡ first_of (link_causes (tasks known.now) (items self.old.steps) (items self.old.links) (K.before keeper.old) 256 link) 0 }
+        ensures answer { length (items self.old.steps) ≤ K.CAPACITY → row result ≡ first_of (link_causes (tasks known.now) (items self.old.steps) (items self.old.links) (K.before keeper.old) 256 link) 0 }
         ensures after { plan (K.before keeper.new) self.new ≡ told (row result) (plan_link (tasks known.now) (plan (K.before keeper.old) self.old) link) (plan (K.before keeper.old) self.old) }
     {
         if let Some(refusal) = self.bad_ends(known, link) {

@@ -13,7 +13,7 @@ use Rattle.decomposing.proofs.decomposing.decompose.Goals as goal
 pub returns-in_default-method : goal.returns-in_default-method
 returns-in_default-method g c =
     let keeper = g.K.Keeper in
-    let n = keeper.capacity in
+    let n = keeper.CAPACITY in
     let dom = parts c.args.domain.now in
     let p = plan (keeper.before c.args.keeper.now) c.args.target.now in
     let s = c.args.s in
@@ -23,7 +23,7 @@ returns-in_default-method g c =
 pub returns-then-task : goal.returns-then-task
 returns-then-task g c =
     let keeper = g.K.Keeper in
-    let n = keeper.capacity in
+    let n = keeper.CAPACITY in
     let dom = parts c.args.domain.now in
     let p = plan (keeper.before c.args.keeper.now) c.args.target.now in
     let s = c.args.s in
@@ -34,7 +34,7 @@ returns-then-task g c =
 pub returns-in_default-revise : goal.returns-in_default-revise
 returns-in_default-revise g c =
     let keeper = g.K.Keeper in
-    let n = keeper.capacity in
+    let n = keeper.CAPACITY in
     let dom = parts c.args.domain.now in
     let R = keeper.before c.args.keeper.now in
     let p = plan R c.args.target.now in
@@ -42,18 +42,18 @@ returns-in_default-revise g c =
     let t = c.in-Some.task in
     let by = method c.in-Some-method.by.now in
     let own : t ≡ by.task = c.if-task.false ∙ c.task.ensures in
-    let many : too_many n p s (Some by) ≡ true = ap (λ (k : ℕ). too_many k p s (Some by)) (sym c.steps.ensures) ∙ c.in_default-revise.ensures in
+    let many : too_many n p s (Some by) ≡ true = ap (λ (k : ℕ). too_many k p s (Some by)) (sym c.CAPACITY.ensures) ∙ c.in_default-revise.ensures in
     record { answer = limit_passed n dom.tasks dom.methods p s c.args.m (length p.steps) t c.in-Some.ensures by c.in-Some-method.ensures.item own many; after = refl; same = λ e. (refl, refl) }
 
 pub order_after-requires : goal.order_after-requires
 order_after-requires g c =
     let keeper = g.K.Keeper in
-    with_order c.steps.result keeper.capacity (plan nothing c.args.target.now) (keeper.before c.args.keeper.now) c.args.s (method c.in-Some-method.by.now) _ _ c.steps.ensures c.in-Some-revise.ensures
+    with_order c.CAPACITY.result keeper.CAPACITY (plan nothing c.args.target.now) (keeper.before c.args.keeper.now) c.args.s (method c.in-Some-method.by.now) _ _ c.CAPACITY.ensures c.in-Some-revise.ensures
 
 pub returns-in_default-order_after : goal.returns-in_default-order_after
 returns-in_default-order_after g c =
     let keeper = g.K.Keeper in
-    let n = keeper.capacity in
+    let n = keeper.CAPACITY in
     let dom = parts c.args.domain.now in
     let R = keeper.before c.args.keeper.now in
     let p = plan R c.args.target.now in
@@ -61,13 +61,13 @@ returns-in_default-order_after g c =
     let t = c.in-Some.task in
     let by = method c.in-Some-method.by.now in
     let own : t ≡ by.task = c.if-task.false ∙ c.task.ensures in
-    let rev = with_order c.steps.result n (plan nothing c.args.target.now) R s by _ _ c.steps.ensures c.in-Some-revise.ensures in
+    let rev = with_order c.CAPACITY.result n (plan nothing c.args.target.now) R s by _ _ c.CAPACITY.ensures c.in-Some-revise.ensures in
     record { answer = closes_circle n dom.tasks dom.methods p s c.args.m (length p.steps) t c.in-Some.ensures by c.in-Some-method.ensures.item own rev.few (refused n dom.tasks (tasks c.tasks.result.now) p s by c.tasks.ensures c.in_default-order_after.ensures); after = refl; same = λ e. (refl, refl) }
 
 pub returns : goal.returns
 returns g c =
     let keeper = g.K.Keeper in
-    let n = keeper.capacity in
+    let n = keeper.CAPACITY in
     let dom = parts c.args.domain.now in
     let R = keeper.before c.args.keeper.now in
     let p = plan R c.args.target.now in
@@ -75,7 +75,7 @@ returns g c =
     let t = c.in-Some.task in
     let by = method c.in-Some-method.by.now in
     let own : t ≡ by.task = c.if-task.false ∙ c.task.ensures in
-    let rev = with_order c.steps.result n (plan nothing c.args.target.now) R s by _ _ c.steps.ensures c.in-Some-revise.ensures in
+    let rev = with_order c.CAPACITY.result n (plan nothing c.args.target.now) R s by _ _ c.CAPACITY.ensures c.in-Some-revise.ensures in
     let S = keeper.before c.in-Some-order_after.next in
     let is = c.in-Some-order_after.ensures in
     record {

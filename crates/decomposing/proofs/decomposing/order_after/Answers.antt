@@ -18,7 +18,7 @@ returns-then-is_err g c =
     let e : Exchange = record { leaving = s; first = first; end = first + c.count_steps.result } in
     let end : first + c.count_steps.result ≡ length p.steps + length m.steps = omega (arith, c.given-first.ensures.value, c.count_steps.ensures.value) in
     let drops = c.drop_step.ensures ∙ ap (λ (R : Relation). dropped R s) c.copied-next.ensures in
-    tried_new keeper.capacity (tasks c.args.known.now) p s m e (items c.args.after.now.steps) (items c.args.after.now.links) c.requires refl c.given-first.ensures.value end
+    tried_new keeper.CAPACITY (tasks c.args.known.now) p s m e (items c.args.after.now.steps) (items c.args.after.now.links) c.requires refl c.given-first.ensures.value end
     (keeper.before c.drop_step.new.self) (keeper.before c.put_brought.new.next) (is_ok c.put_brought.result) false drops c.if-is_err.ensures.negation c.put_brought.ensures
 
 pub returns : goal.returns
@@ -31,5 +31,5 @@ returns g c =
     let e : Exchange = record { leaving = s; first = first; end = first + c.count_steps.result } in
     let end : first + c.count_steps.result ≡ length p.steps + length m.steps = omega (arith, c.given-first.ensures.value, c.count_steps.ensures.value) in
     let drops = c.drop_step.ensures ∙ ap (λ (R : Relation). dropped R s) c.copied-next.ensures in
-    tried_new keeper.capacity (tasks c.args.known.now) p s m e (items c.args.after.now.steps) (items c.args.after.now.links) c.requires refl c.given-first.ensures.value end
+    tried_new keeper.CAPACITY (tasks c.args.known.now) p s m e (items c.args.after.now.steps) (items c.args.after.now.links) c.requires refl c.given-first.ensures.value end
     (keeper.before c.drop_step.new.self) (keeper.before c.put_brought.new.next) (is_ok c.put_brought.result) true drops c.if-is_err.ensures.negation c.put_brought.ensures

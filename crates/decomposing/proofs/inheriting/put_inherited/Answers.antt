@@ -14,7 +14,7 @@ returns-in_err-put_row g c =
     let s = c.args.places.leaving in
     let ns = numbers c.args.places in
     let os = items c.args.target.now.steps in
-    turn_stop keeper.capacity (keeper.before c.loop-x.next) (keeper.before c.put_row.new.next) (inherited_by d R s os x ns) (old_left d R s ns os (x)) (old_left d R s ns os (x + 1)) _ c.from_residual.result (old_more d R s ns os x (omega (arith, c.given-x-end.ensures.value))) c.loop-x.invariant c.from_residual.ensures.0 c.in_err-put_row.ensures
+    turn_stop keeper.CAPACITY (keeper.before c.loop-x.next) (keeper.before c.put_row.new.next) (inherited_by d R s os x ns) (old_left d R s ns os (x)) (old_left d R s ns os (x + 1)) _ c.from_residual.result (old_more d R s ns os x (omega (arith, c.given-x-end.ensures.value))) c.loop-x.invariant c.from_residual.ensures.0 c.in_err-put_row.ensures
 
 pub loop-x-preserved : goal.loop-x-preserved
 loop-x-preserved g c =
@@ -25,7 +25,7 @@ loop-x-preserved g c =
     let s = c.args.places.leaving in
     let ns = numbers c.args.places in
     let os = items c.args.target.now.steps in
-    turn_more keeper.capacity (keeper.before c.loop-x.next) (keeper.before c.put_row.new.next) (inherited_by d R s os x ns) (old_left d R s ns os (x)) (old_left d R s ns os (x + 1)) _ (old_more d R s ns os x (omega (arith, c.given-x-end.ensures.value))) c.loop-x.invariant c.in_ok-put_row.ensures
+    turn_more keeper.CAPACITY (keeper.before c.loop-x.next) (keeper.before c.put_row.new.next) (inherited_by d R s os x ns) (old_left d R s ns os (x)) (old_left d R s ns os (x + 1)) _ (old_more d R s ns os x (omega (arith, c.given-x-end.ensures.value))) c.loop-x.invariant c.in_ok-put_row.ensures
 
 pub returns : goal.returns
 returns g c =
@@ -36,4 +36,4 @@ returns g c =
     let s = c.args.places.leaving in
     let ns = numbers c.args.places in
     let os = items c.args.target.now.steps in
-    turn_end keeper.capacity (keeper.before c.loop-x.next) (old_left d R s ns os (x)) _ (old_none d R s ns os x (omega (arith, c.given-x-end.ensures.value))) c.loop-x.invariant
+    turn_end keeper.CAPACITY (keeper.before c.loop-x.next) (old_left d R s ns os (x)) _ (old_none d R s ns os x (omega (arith, c.given-x-end.ensures.value))) c.loop-x.invariant

@@ -9,4 +9,4 @@ abbrev pub invariant-loop-x : goal.invariant-loop-x
 invariant-loop-x g l =
     let keeper = g.K.Keeper in
     let left = old_left l.side (keeper.before l.keeper) l.places.leaving (numbers l.places) (items l.target.steps) in
-    put_each keeper.capacity (keeper.before l.next) (left l.x) ≡ put_each keeper.capacity (keeper.before l.initial.next) (left 0)
+    put_each keeper.CAPACITY (keeper.before l.next) (left l.x) ≡ put_each keeper.CAPACITY (keeper.before l.initial.next) (left 0)

@@ -6,5 +6,5 @@ use Rattle.decomposing.proofs.inheriting.put_with_each.Given as goal
 abbrev pub invariant-loop-y : goal.invariant-loop-y
 invariant-loop-y g l =
     let keeper = g.K.Keeper in
-    put_each keeper.capacity (keeper.before l.next) (each_left l.side l.x l.y-end l.y)
-    ≡ put_each keeper.capacity (keeper.before l.initial.next) (each_left l.side l.x l.y-end l.initial.y)
+    put_each keeper.CAPACITY (keeper.before l.next) (each_left l.side l.x l.y-end l.y)
+    ≡ put_each keeper.CAPACITY (keeper.before l.initial.next) (each_left l.side l.x l.y-end l.initial.y)

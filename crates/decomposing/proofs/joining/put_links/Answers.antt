@@ -13,7 +13,7 @@ returns-in_err-put_link g c =
     let ts = tasks c.args.known.now in
     let ss = items c.args.steps.now in
     let ls = c.args.links.now in
-    turn_stop keeper.capacity (keeper.before c.loop-link.next) (keeper.before c.put_link.new.next) (link_pairs ts ss (get_or ls i no_link ∷ [])) (link_left ts ss ls (i)) (link_left ts ss ls (i + 1)) _ c.from_residual.result (link_more ts ss ls i no_link c.loop-link-test.true) c.loop-link.invariant c.from_residual.ensures.0 c.in_err-put_link.ensures
+    turn_stop keeper.CAPACITY (keeper.before c.loop-link.next) (keeper.before c.put_link.new.next) (link_pairs ts ss (get_or ls i no_link ∷ [])) (link_left ts ss ls (i)) (link_left ts ss ls (i + 1)) _ c.from_residual.result (link_more ts ss ls i no_link c.loop-link-test.true) c.loop-link.invariant c.from_residual.ensures.0 c.in_err-put_link.ensures
 
 pub loop-link-preserved : goal.loop-link-preserved
 loop-link-preserved g c =
@@ -22,7 +22,7 @@ loop-link-preserved g c =
     let ts = tasks c.args.known.now in
     let ss = items c.args.steps.now in
     let ls = c.args.links.now in
-    turn_more keeper.capacity (keeper.before c.loop-link.next) (keeper.before c.put_link.new.next) (link_pairs ts ss (get_or ls i no_link ∷ [])) (link_left ts ss ls (i)) (link_left ts ss ls (i + 1)) _ (link_more ts ss ls i no_link c.loop-link-test.true) c.loop-link.invariant c.in_ok-put_link.ensures
+    turn_more keeper.CAPACITY (keeper.before c.loop-link.next) (keeper.before c.put_link.new.next) (link_pairs ts ss (get_or ls i no_link ∷ [])) (link_left ts ss ls (i)) (link_left ts ss ls (i + 1)) _ (link_more ts ss ls i no_link c.loop-link-test.true) c.loop-link.invariant c.in_ok-put_link.ensures
 
 pub returns : goal.returns
 returns g c =
@@ -31,4 +31,4 @@ returns g c =
     let ts = tasks c.args.known.now in
     let ss = items c.args.steps.now in
     let ls = c.args.links.now in
-    turn_end keeper.capacity (keeper.before c.loop-link.next) (link_left ts ss ls (i)) _ (link_none ts ss ls i c.loop-link-test.false) c.loop-link.invariant
+    turn_end keeper.CAPACITY (keeper.before c.loop-link.next) (link_left ts ss ls (i)) _ (link_none ts ss ls i c.loop-link-test.false) c.loop-link.invariant

@@ -9,4 +9,4 @@ abbrev pub invariant-loop-link : goal.invariant-loop-link
 invariant-loop-link g l =
     let keeper = g.K.Keeper in
     let left = link_left (tasks l.known) (items l.steps) l.links in
-    put_each keeper.capacity (keeper.before l.next) (left l.link-index) ≡ put_each keeper.capacity (keeper.before l.initial.next) (left 0)
+    put_each keeper.CAPACITY (keeper.before l.next) (left l.link-index) ≡ put_each keeper.CAPACITY (keeper.before l.initial.next) (left 0)

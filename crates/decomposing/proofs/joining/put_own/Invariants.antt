@@ -9,4 +9,4 @@ abbrev pub invariant-loop-a : goal.invariant-loop-a
 invariant-loop-a g l =
     let keeper = g.K.Keeper in
     let left = own_left l.first (method l.m).before (length (method l.m).steps) in
-    put_each keeper.capacity (keeper.before l.next) (left l.a) ≡ put_each keeper.capacity (keeper.before l.initial.next) (shifted l.first (pairs_of (method l.m)))
+    put_each keeper.CAPACITY (keeper.before l.next) (left l.a) ≡ put_each keeper.CAPACITY (keeper.before l.initial.next) (shifted l.first (pairs_of (method l.m)))

@@ -10,7 +10,7 @@ pub loop-b-init : goal.loop-b-init
 loop-b-init g c =
     let keeper = g.K.Keeper in
     let test = (method c.args.m.now).before c.args.a in
-    ap (put_each keeper.capacity (keeper.before c.args.next.now)) (row_all c.args.first c.args.a test (length (method c.args.m.now).steps))
+    ap (put_each keeper.CAPACITY (keeper.before c.args.next.now)) (row_all c.args.first c.args.a test (length (method c.args.m.now).steps))
 
 pub returns-in_err-put_own_pair : goal.returns-in_err-put_own_pair
 returns-in_err-put_own_pair g c =
@@ -20,7 +20,7 @@ returns-in_err-put_own_pair g c =
     let a = c.args.a in
     let test = (method c.args.m.now).before a in
     let k = length (method c.args.m.now).steps in
-    turn_stop keeper.capacity (keeper.before c.loop-b.next) (keeper.before c.put_own_pair.new.next) (shifted f (row_pairs a test (b ∷ []))) (row_left f a test k (b)) (row_left f a test k (b + 1)) _ c.from_residual.result (row_more f a test k b (omega (arith, c.count_steps-b-end.ensures.value))) c.loop-b.invariant c.from_residual.ensures.0 c.in_err-put_own_pair.ensures
+    turn_stop keeper.CAPACITY (keeper.before c.loop-b.next) (keeper.before c.put_own_pair.new.next) (shifted f (row_pairs a test (b ∷ []))) (row_left f a test k (b)) (row_left f a test k (b + 1)) _ c.from_residual.result (row_more f a test k b (omega (arith, c.count_steps-b-end.ensures.value))) c.loop-b.invariant c.from_residual.ensures.0 c.in_err-put_own_pair.ensures
 
 pub loop-b-preserved : goal.loop-b-preserved
 loop-b-preserved g c =
@@ -30,7 +30,7 @@ loop-b-preserved g c =
     let a = c.args.a in
     let test = (method c.args.m.now).before a in
     let k = length (method c.args.m.now).steps in
-    turn_more keeper.capacity (keeper.before c.loop-b.next) (keeper.before c.put_own_pair.new.next) (shifted f (row_pairs a test (b ∷ []))) (row_left f a test k (b)) (row_left f a test k (b + 1)) _ (row_more f a test k b (omega (arith, c.count_steps-b-end.ensures.value))) c.loop-b.invariant c.in_ok-put_own_pair.ensures
+    turn_more keeper.CAPACITY (keeper.before c.loop-b.next) (keeper.before c.put_own_pair.new.next) (shifted f (row_pairs a test (b ∷ []))) (row_left f a test k (b)) (row_left f a test k (b + 1)) _ (row_more f a test k b (omega (arith, c.count_steps-b-end.ensures.value))) c.loop-b.invariant c.in_ok-put_own_pair.ensures
 
 pub returns : goal.returns
 returns g c =
@@ -40,4 +40,4 @@ returns g c =
     let a = c.args.a in
     let test = (method c.args.m.now).before a in
     let k = length (method c.args.m.now).steps in
-    turn_end keeper.capacity (keeper.before c.loop-b.next) (row_left f a test k (b)) _ (row_none f a test k b (omega (arith, c.count_steps-b-end.ensures.value))) c.loop-b.invariant
+    turn_end keeper.CAPACITY (keeper.before c.loop-b.next) (row_left f a test k (b)) _ (row_none f a test k b (omega (arith, c.count_steps-b-end.ensures.value))) c.loop-b.invariant

@@ -9,4 +9,4 @@ abbrev pub invariant-loop-b : goal.invariant-loop-b
 invariant-loop-b g l =
     let keeper = g.K.Keeper in
     let left = row_left l.first l.a ((method l.m).before l.a) (length (method l.m).steps) in
-    put_each keeper.capacity (keeper.before l.next) (left l.b) ≡ put_each keeper.capacity (keeper.before l.initial.next) (shifted l.first (row_pairs l.a ((method l.m).before l.a) (upfrom 0 (length (method l.m).steps))))
+    put_each keeper.CAPACITY (keeper.before l.next) (left l.b) ≡ put_each keeper.CAPACITY (keeper.before l.initial.next) (shifted l.first (row_pairs l.a ((method l.m).before l.a) (upfrom 0 (length (method l.m).steps))))

@@ -9,7 +9,7 @@ pub loop-a-preserved : goal.loop-a-preserved
 loop-a-preserved c =
     let ks = (method c.args.m.now).steps in
     let few : length (items c.args.steps.now ++ map Some ks) ≤ 64 = simp (length-append, length-map) (omega (arith, c.requires)) in
-    step_more ks (items c.loop-a.steps) _ c.loop-a.a c.loop-a.invariant c.task_of_step.result c.push.result (items c.push.new.self) (omega (arith, c.count_steps-a-end.ensures.value)) few c.task_of_step.ensures c.push.ensures.room c.push.ensures.after
+    step_more ks (items c.loop-a.steps) _ c.loop-a.a c.loop-a.invariant c.task_of_step.result _ (items c.push.new.self) (omega (arith, c.count_steps-a-end.ensures.value)) few c.task_of_step.ensures c.push.ensures.room c.push.ensures.after
 
 pub returns : goal.returns
 returns c =

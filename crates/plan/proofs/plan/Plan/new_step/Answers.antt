@@ -10,7 +10,7 @@ returns g c = record {
   after = λ suits.
       let R = g.K.Keeper.before c.args.keeper.now in
       let laws = g.met.K.Keeper in
-      let n = g.K.Keeper.capacity in
+      let n = g.K.Keeper.CAPACITY in
       let k = c.given-number.result in
       let is : k ≡ length (items c.args.self.now.steps) = c.given-number.ensures.value in
       let strict : Strict R = record { never_itself = laws.never_itself c.args.keeper.now; passes_on = laws.passes_on c.args.keeper.now } in

@@ -9,6 +9,6 @@ returns-in-Err g c =
     let q = sym c.if-not-is_step-2.ensures in
     let e = c.in-Err.ensures in
     record {
-      answer = λ room. circle_told _ _ _ p q (circle g.K.Keeper.capacity (g.K.Keeper.before c.args.keeper.now) (items c.args.self.now.steps) c.args.earlier c.args.later room p q (sym e.test));
+      answer = λ room. circle_told _ _ _ p q (circle g.K.Keeper.CAPACITY (g.K.Keeper.before c.args.keeper.now) (items c.args.self.now.steps) c.args.earlier c.args.later room p q (sym e.test));
       after = e.after;
     }
