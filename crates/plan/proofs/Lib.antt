@@ -1,5 +1,6 @@
-mod Downs
+mod Finds
+mod Lowest
 mod Ups
-mod Puts
+mod Present
 mod Sums
 mod Takes

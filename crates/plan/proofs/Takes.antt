@@ -1,12 +1,11 @@
 -- The row of R, and how far a plan is carried out after it, by masks.
-use Rattle.std.proofs.Common.{◌≡◌, ℕ, ◌^◌, ◌<◌, ◌≤◌, Bool, true, false, not, ◌&&◌, ◌||◌, eqb, List, [], ◌∷◌, length, Some, None, Option, sym, ap, ◌∙◌, ap₂, arith}
+use Rattle.std.proofs.Common.{◌≡◌, ℕ, ◌^◌, ◌<◌, Bool, true, false, not, ◌&&◌, ◌||◌, eqb, List, [], ◌∷◌, Some, None, Option, sym, ap, ◌∙◌, ap₂}
 use mathlib.Core.Path.{fun_ext}
 use lib.Bits.{bit_or}
 use Rattle.page.specs.Answers.{as_row}
 use Rattle.page.specs.declared.answer.Row.{Row}
 use Rattle.masks.specs.Bits.{bit}
 use Rattle.masks.proofs.Bits.{bit-or, bit_pow, bit_zero, eqb_turned, or_turned}
-use Rattle.semantics.proofs.Orders.{is_false}
 use Rattle.semantics.specs.Causes.{first_such, nameless, or_else, returned, when}
 use Rattle.semantics.specs.Facts.{after_step, among, as_sum, Facts, facts_after}
 use Rattle.semantics.specs.OpenLines.{is_step}
@@ -16,7 +15,6 @@ use Rattle.semantics.specs.Plans.{steps_of, task_of}
 use Rattle.semantics.specs.Tasks.{Task}
 use Rattle.plan.specs.Following.{Follows, is_behind, Took}
 use Rattle.plan.specs.declared.progress.Progress.{Progress}
-use Rattle.plan.proofs.Puts.{step_given}
 use Rattle.plan.proofs.Sums.{sum_of_mask}
 
 pub starts : (ts : List Task) (p : planned.Plan) → Follows ts p [] (record { taken = 0; facts = 0 })
@@ -26,24 +24,9 @@ starts ts p = record { steps = bit_zero; facts = bit_zero }
 abbrev told_by : Bool → Bool → Option (ℕ × ℕ × ℕ) → ℕ → Row
 told_by there again waits n = or_else 6 (nameless 1 (there ∷ [])) (or_else 8 (when again) (or_else 13 waits (as_row 0 n 0 0)))
 
-pub never_given : (os : List (Option ℕ)) (s : ℕ) → length os ≤ s → is_step os s ≡ false
-never_given os s h = is_false (is_step os s) (λ e. let l = step_given os s e in omega arith)
-
 module _ (ts : List Task) (p : planned.Plan) (taken : List ℕ) (s : ℕ) (g : Progress) (so_far : Follows ts p taken g) where
   abbrev facts_then : Facts
   facts_then = facts_after ts p (s ∷ taken)
-
-  pub took_absent : is_step p.steps s ≡ false → Took ts p taken s (as_row 6 1 0 0) g
-  took_absent e = record {
-    answers = sym (ap (λ b. told_by b (among s taken) (untaken_before p taken s) (as_sum facts_then)) e);
-    follows = so_far;
-  }
-
-  pub took_again : is_step p.steps s ≡ true → bit g.taken s ≡ true → Took ts p taken s (as_row 8 0 0 0) g
-  took_again e a = record {
-    answers = sym (ap₂ (λ b c. told_by b c (untaken_before p taken s) (as_sum facts_then)) e (sym (so_far.steps s) ∙ a));
-    follows = so_far;
-  }
 
   waiting : first_such (is_behind p.before g.taken s) (steps_of p) ≡ first_such (λ x. p.before x s && not (among x taken)) (steps_of p)
   waiting = ap (λ test. first_such test (steps_of p)) (fun_ext (λ x. ap (λ b. p.before x s && not b) (so_far.steps x)))

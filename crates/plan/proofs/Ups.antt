@@ -1,15 +1,13 @@
 -- Loops that go up the steps of a plan, or up the labels of a list, until something is found.
-use Rattle.std.proofs.Common.{◌≡◌, ℕ, zero, suc, ◌+◌, ◌-◌, ◌<◌, ◌≤◌, Bool, true, false, cond, not, List, [], ◌∷◌, length, get_or, drop, is_some as option_is_some, Some, None, Option, sym, refl, ap, ◌∙◌, zero-add, add-one, arith, is_some}
-use mathlib.Core.Bool.{false≢true}
-use Rattle.std.specs.List.{slice_get}
-use Rattle.std.proofs.lemmas.List.{at_drop_more, at_drop_all}
+use Rattle.std.proofs.Common.{◌≡◌, ℕ, suc, ◌+◌, ◌-◌, ◌<◌, Bool, true, false, cond, not, List, [], ◌∷◌, length, get_or, drop, is_some, Some, None, Option, sym, refl, ap, ◌∙◌, add-one, arith}
+use Rattle.std.proofs.lemmas.List.{at_drop_more}
+use Rattle.std.proofs.lemmas.Option.{slice_get-get_or}
 use Rattle.semantics.specs.Causes.{first_such, first_found, also}
 use Rattle.semantics.specs.PlanLines.{producer}
 use Rattle.semantics.specs.declared.link.Link.{Link}
 use Rattle.semantics.specs.Decomposing.{upfrom}
 use Rattle.semantics.specs.Plans.{present_from}
-use Rattle.semantics.specs.OpenLines.{is_step, there}
-use Rattle.plan.specs.Turns.{if_present, at_step, paired, no_producer, unlinked}
+use Rattle.plan.specs.Turns.{if_present, at_step, paired, no_producer}
 
 -- the first of two finds
 abbrev pub or_find : {Y : Type 0} → Option Y → Option Y → Option Y
@@ -35,11 +33,6 @@ seeks_found {Y} find = record { none = refl; more = λ x xs. at (find x) x (firs
     at None x o = refl
     at (Some y) x o = refl
 
-nth_get_or : (os : List (Option ℕ)) (i : ℕ) → i < length os → slice_get os i ≡ Some (get_or os i None)
-nth_get_or [] i h = absurd (omega arith)
-nth_get_or (o ∷ os) zero h = refl
-nth_get_or (o ∷ os) (suc i) h = nth_get_or os i (omega arith)
-
 -- what is found from step i on
 abbrev pub From : {Y : Type 0} → (List ℕ → Option Y) → List (Option ℕ) → ℕ → Option Y
 From F os i = F (present_from i (drop i os))
@@ -48,7 +41,7 @@ module _ {Y : Type 0} (F : List ℕ → Option Y) (find : ℕ → Option Y) (s :
   one : (i : ℕ) → i < length os → From F os i ≡ or_find (at_step os find i) (From F os (i + 1))
   one i h =
       let e : From F os i ≡ F (present_from i (get_or os i None ∷ drop (i + 1) os)) = at_drop_more (λ xs. F (present_from i xs)) os i None h in
-      e ∙ at (get_or os i None) (drop (i + 1) os) ∙ ap (λ o. or_find (if_present o (find i)) (From F os (i + 1))) (sym (nth_get_or os i h))
+      e ∙ at (get_or os i None) (drop (i + 1) os) ∙ ap (λ o. or_find (if_present o (find i)) (From F os (i + 1))) (sym (slice_get-get_or os i None h))
     where
       at : (o : Option ℕ) (rest : List (Option ℕ)) → F (present_from i (o ∷ rest)) ≡ or_find (if_present (Some o) (find i)) (F (present_from (i + 1) rest))
       at None rest = ap (λ k. F (present_from k rest)) (sym (add-one i))
@@ -59,9 +52,6 @@ module _ {Y : Type 0} (F : List ℕ → Option Y) (find : ℕ → Option Y) (s :
 
   pub seek_here : (i : ℕ) (y : Y) → i < length os → at_step os find i ≡ Some y → From F os i ≡ From F os 0 → Some y ≡ F (present_from 0 os)
   seek_here i y h n e = sym (one i h ∙ ap (λ o. or_find o (From F os (i + 1))) n) ∙ e
-
-  pub seek_end : (i : ℕ) → length os ≤ i → From F os i ≡ From F os 0 → None ≡ F (present_from 0 os)
-  seek_end i h e = sym s.none ∙ sym (at_drop_all (λ xs. F (present_from i xs)) os i h) ∙ e
 
 -- the same up the numbers below n
 abbrev pub Below : {Y : Type 0} → (List ℕ → Option Y) → ℕ → ℕ → Option Y
@@ -76,32 +66,11 @@ module _ {Y : Type 0} (F : List ℕ → Option Y) (find : ℕ → Option Y) (s :
   pub below_on : (i : ℕ) → i < n → find i ≡ None → Below F n i ≡ Below F n 0 → Below F n (i + 1) ≡ Below F n 0
   below_on i h e q = sym (next i h ∙ ap (λ o. or_find o (Below F n (i + 1))) e) ∙ q
 
-  pub below_here : (i : ℕ) (y : Y) → i < n → find i ≡ Some y → Below F n i ≡ Below F n 0 → Some y ≡ F (upfrom 0 n)
-  below_here i y h e q = sym (next i h ∙ ap (λ o. or_find o (Below F n (i + 1))) e) ∙ q ∙ ap (λ m. F (upfrom 0 m)) (let z : n - 0 ≡ n = omega arith in z)
-
-  pub below_end : (i : ℕ) → n ≤ i → Below F n i ≡ Below F n 0 → None ≡ F (upfrom 0 n)
-  below_end i h q = sym s.none ∙ ap (λ m. F (upfrom i m)) (let z : 0 ≡ n - i = omega arith in z) ∙ q ∙ ap (λ m. F (upfrom 0 m)) (let z : n - 0 ≡ n = omega arith in z)
-
--- a need without a producer, as the code finds it
-none_there : {X : Type 0} (o p : Option X) → o ≡ p → option_is_some o ≡ false → not (is_some p) ≡ true
-none_there o None e h = refl
-none_there o (Some x) e h = absurd (false≢true (sym h ∙ ap option_is_some e))
-
-some_there : {X : Type 0} (o p : Option X) → o ≡ p → option_is_some o ≡ true → not (is_some p) ≡ false
-some_there o None e h = absurd (false≢true (sym (ap option_is_some e) ∙ h))
-some_there o (Some x) e h = refl
-
-pub unlinked_here : (ls : List Link) (s n j : ℕ) (o : Option ℕ) → j < n → o ≡ producer ls s j → option_is_some o ≡ false → Below (first_such (no_producer ls s)) n j ≡ Below (first_such (no_producer ls s)) n 0 → Some j ≡ unlinked ls n s
-unlinked_here ls s n j o l e h q =
-    below_here (first_such (no_producer ls s)) (λ x. cond (no_producer ls s x) (Some x) None) (seeks_such (no_producer ls s)) n j j l (ap (λ b. cond b (Some j) None) (none_there o (producer ls s j) e h)) q
-
-pub unlinked_on : (ls : List Link) (s n j : ℕ) (o : Option ℕ) → j < n → o ≡ producer ls s j → option_is_some o ≡ true → Below (first_such (no_producer ls s)) n j ≡ Below (first_such (no_producer ls s)) n 0
+-- a need with a producer
+pub unlinked_on : (ls : List Link) (s n j : ℕ) (o : Option ℕ) → j < n → o ≡ producer ls s j → is_some o ≡ true → Below (first_such (no_producer ls s)) n j ≡ Below (first_such (no_producer ls s)) n 0
     → Below (first_such (no_producer ls s)) n (j + 1) ≡ Below (first_such (no_producer ls s)) n 0
 unlinked_on ls s n j o l e h q =
-    below_on (first_such (no_producer ls s)) (λ x. cond (no_producer ls s x) (Some x) None) (seeks_such (no_producer ls s)) n j l (ap (λ b. cond b (Some j) None) (some_there o (producer ls s j) e h)) q
-
-pub unlinked_end : (ls : List Link) (s n j : ℕ) → n ≤ j → Below (first_such (no_producer ls s)) n j ≡ Below (first_such (no_producer ls s)) n 0 → None ≡ unlinked ls n s
-unlinked_end ls s n j l q = below_end (first_such (no_producer ls s)) (λ x. cond (no_producer ls s x) (Some x) None) (seeks_such (no_producer ls s)) n j l q
+    below_on (first_such (no_producer ls s)) (λ x. cond (no_producer ls s x) (Some x) None) (seeks_such (no_producer ls s)) n j l (ap (λ b. cond b (Some j) None) (ap not (sym (ap is_some e) ∙ h))) q
 
 -- seeking what is found for a step
 module _ {Y : Type 0} (find : ℕ → Option Y) (os : List (Option ℕ)) where
@@ -110,28 +79,3 @@ module _ {Y : Type 0} (find : ℕ → Option Y) (os : List (Option ℕ)) where
 
   pub found_on : (i : ℕ) → i < length os → at_step os (λ x. paired x (find x)) i ≡ None → From (first_found find) os i ≡ From (first_found find) os 0 → From (first_found find) os (i + 1) ≡ From (first_found find) os 0
   found_on i h e q = seek_on (first_found find) (λ x. paired x (find x)) (seeks_found find) os i h e q
-
-  pub found_end : (i : ℕ) → length os ≤ i → From (first_found find) os i ≡ From (first_found find) os 0 → None ≡ first_found find (present_from 0 os)
-  found_end i h q = seek_end (first_found find) (λ x. paired x (find x)) (seeks_found find) os i h q
-
--- how many steps are present from step i on
-abbrev pub Count : List (Option ℕ) → ℕ → ℕ
-Count os i = length (present_from i (drop i os))
-
-count_one : (os : List (Option ℕ)) (i : ℕ) → i < length os → Count os i ≡ cond (is_step os i) 1 0 + Count os (i + 1)
-count_one os i h =
-    let e : Count os i ≡ length (present_from i (get_or os i None ∷ drop (i + 1) os)) = at_drop_more (λ xs. length (present_from i xs)) os i None h in
-    e ∙ at (get_or os i None) (drop (i + 1) os) ∙ ap (λ o. cond (there o) 1 0 + Count os (i + 1)) (sym (nth_get_or os i h))
-  where
-    at : (o : Option ℕ) (rest : List (Option ℕ)) → length (present_from i (o ∷ rest)) ≡ cond (there (Some o)) 1 0 + length (present_from (i + 1) rest)
-    at None rest = ap (λ k. length (present_from k rest)) (sym (add-one i)) ∙ sym (zero-add _)
-    at (Some t) rest = ap (λ k. suc (length (present_from k rest))) (sym (add-one i)) ∙ (let z : suc (length (present_from (i + 1) rest)) ≡ 1 + length (present_from (i + 1) rest) = omega arith in z)
-
-pub count_present : (os : List (Option ℕ)) (i : ℕ) → i < length os → is_step os i ≡ true → Count os i ≡ 1 + Count os (i + 1)
-count_present os i h e = count_one os i h ∙ ap (λ b. cond b 1 0 + Count os (i + 1)) e
-
-pub count_absent : (os : List (Option ℕ)) (i : ℕ) → i < length os → is_step os i ≡ false → Count os i ≡ Count os (i + 1)
-count_absent os i h e = count_one os i h ∙ ap (λ b. cond b 1 0 + Count os (i + 1)) e ∙ zero-add _
-
-pub count_end : (os : List (Option ℕ)) (i : ℕ) → length os ≤ i → Count os i ≡ 0
-count_end os i h = at_drop_all (λ xs. length (present_from i xs)) os i h

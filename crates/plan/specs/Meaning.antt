@@ -1,14 +1,19 @@
 -- What a plan and its keeper mean together.
-use Rattle.std.specs.Prelude.{ℕ, ◌<◌, ◌≤◌, Bool, cond, length, Some, None, Option}
+use Rattle.std.specs.Prelude.{ℕ, ◌<◌, ◌≤◌, Bool, cond, List, length, Some, None, Option}
 use Rattle.fixed.specs.Items.{items}
 use Rattle.plan.specs.declared.plan.Plan.{Plan}
+use Rattle.plan.specs.declared.steps.Steps.{Steps}
 use Rattle.semantics.specs.Orders.{Holds, put, Relation}
 use Rattle.semantics.specs.Plans as planned
 use Rattle.semantics.specs.declared.link.Link.{Link}
 
+-- at each step number given so far the number of the step's task, or None once the step has left
+abbrev pub given_steps : Steps → List (Option ℕ)
+given_steps s = items s.list
+
 -- the plan with the order that its keeper means
 abbrev pub plan : Relation → Plan → planned.Plan
-plan before p = record { steps = items p.steps; links = items p.links; before = before }
+plan before p = record { steps = given_steps p.steps; links = items p.links; before = before }
 
 -- a plan with one link more, whose producer is put before its consumer where `ordered` says so
 abbrev pub linked_in : planned.Plan → Link → Bool → planned.Plan

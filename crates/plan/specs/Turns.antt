@@ -1,22 +1,14 @@
 -- The parts of the searches of judging: one turn of a loop, or what is found at one step. The rules themselves are in semantics,
 -- and each public function is held to those.
-use Rattle.std.specs.Prelude.{ℕ, Bool, cond, not, ◌&&◌, List, length, Some, None, Option, ◌==◌, is_some}
+use Rattle.std.specs.Prelude.{ℕ, Bool, cond, not, List, length, Some, None, Option, is_some}
 use Rattle.std.specs.List.{slice_get}
 use Rattle.semantics.specs.Causes.{first_such}
 use Rattle.semantics.specs.Decomposing.{upfrom}
-use Rattle.semantics.specs.PlanLines.{lower_of, lowest_link, lowest_with, producer, threatens}
+use Rattle.semantics.specs.PlanLines.{lowest_link, producer, threatens}
 use Rattle.semantics.specs.Plans as planned
 use Rattle.semantics.specs.Plans.{at_task}
 use Rattle.semantics.specs.Tasks.{Task, is_primitive, needs_of}
 use Rattle.semantics.specs.declared.link.Link.{Link}
-
--- the lower of a producer and the one found, where the link goes to need j of step s
-abbrev pub nearer : ℕ → ℕ → Link → Option ℕ → Option ℕ
-nearer s j l found = cond (l.consumer == s && l.need == j) (lower_of l.producer found) found
-
--- the lower of a link and the one found, where step s threatens it
-abbrev pub nearer_threatened : List Task → planned.Plan → ℕ → Link → Option Link → Option Link
-nearer_threatened ts p s l found = lowest_with (threatens ts p s l) l found
 
 -- what is found at a step that is present
 abbrev pub if_present : {Y : Type 0} → Option (Option ℕ) → Option Y → Option Y

@@ -10,7 +10,9 @@ mod opening;
 mod ordering;
 mod plan;
 mod progress;
+mod steps;
 mod taking;
 
 pub use plan::Plan;
 pub use progress::Progress;
+pub use steps::Steps;

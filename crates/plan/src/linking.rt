@@ -1,5 +1,5 @@
 //! The links of a plan.
-ghost use Rattle.std.specs.Prelude.{◌≡◌, ◌<◌, ◌≤◌, not, ◌&&◌, ◌||◌, length, if◌then◌else◌, ◌==◌};
+ghost use Rattle.std.specs.Prelude.{◌≡◌, ◌<◌, ◌≤◌, not, ◌&&◌, ◌||◌, is_ok, length, if◌then◌else◌, ◌==◌};
 ghost use Rattle.std.specs.List.{slice_get};
 ghost use Rattle.std.specs.Option.{option_map};
 ghost use Rattle.fixed.specs.Items.{items};
@@ -11,41 +11,29 @@ ghost use Rattle.semantics.specs.PlanLines.{producer};
 ghost use Rattle.semantics.specs.Plans.{at_task, primitive_at};
 ghost use Rattle.semantics.specs.States.{plan_link};
 ghost use Rattle.semantics.specs.Tasks.{adds_of, needs_of};
-ghost use Rattle.links.specs.Parts.{end_causes, first_cause, room_causes};
+ghost use Rattle.links.specs.Parts.{end_causes, first_cause, refused, room_causes};
 ghost use Rattle.domain.specs.Meaning.{tasks};
-ghost use Rattle.plan.specs.Meaning.{linked_in, plan};
-ghost use Rattle.plan.specs.Turns.{nearer};
+ghost use Rattle.plan.specs.Meaning.{given_steps, linked_in, plan};
 
 use crate::Plan;
 use domain::Tasks;
-use links::{bad_ends, has_room, join};
-use order::Keeper;
+use links::{check_ends, has_room, join};
+use order::{Keeper, Refused};
 use page::{Answer, Refusal};
 use semantics::Link;
 
-/// The lower of the producer found so far and that of the link, if the link goes to need `j` of step `s`.
-fn with_link(found: Option<u8>, link: Link, s: u8, j: u8) -> Option<u8>
-    ensures { result ≡ nearer s j link found }
-{
-    if link.consumer != s || link.need != j {
-        return found;
-    }
-    match found {
-        Some(other) if other <= link.producer => Some(other),
-        _ => Some(link.producer),
-    }
-}
-
-/// Whether a link may join two steps. Where both are primitive, the first is before the second from then on.
-fn arrange<K: Keeper>(keeper: &mut K, p: u8, q: u8, ordered: bool) -> bool
-    ensures answer { p < K.CAPACITY → q < K.CAPACITY → result ≡ not (p == q || (ordered && K.before keeper.old q p)) }
-    ensures after { K.before keeper.new ≡ (if result && ordered then put (K.before keeper.old) p q else K.before keeper.old) }
+/// Lets a link join two steps. Where both are primitive, the first is before the second from then on.
+fn arrange<K: Keeper>(keeper: &mut K, p: u8, q: u8, ordered: bool) -> Result<(), Refused>
+    ensures answer { p < K.CAPACITY → q < K.CAPACITY → is_ok result ≡ not (p == q || (ordered && K.before keeper.old q p)) }
+    ensures after { K.before keeper.new ≡ (if is_ok result && ordered then put (K.before keeper.old) p q else K.before keeper.old) }
 {
     if ordered {
-        keeper.put(p, q).is_ok()
-    } else {
-        p != q
+        return keeper.put(p, q);
     }
+    if p == q {
+        return Err(Refused);
+    }
+    Ok(())
 }
 
 impl Plan {
@@ -53,36 +41,25 @@ impl Plan {
     pub fn producer(&self, s: u8, j: u8) -> Option<u8>
         ensures { result ≡ producer (items self.now.links) s j }
     {
-        let links = self.links.as_slice();
-        let mut found = None;
-        for i in (0..links.len()).rev() {
-            found = with_link(found, links[i], s, j);
-        }
-        found
+        self.links()
+            .iter()
+            .filter(|link| link.consumer == s && link.need == j)
+            .map(|link| link.producer)
+            .min()
     }
 
     /// The fact that a link is wanted for, by its consumer.
     fn fact_wanted(&self, known: &Tasks, link: Link) -> Option<u8>
-        ensures { result ≡ slice_get (needs_of (at_task (tasks known.now) (slice_get (items self.now.steps) link.consumer))) link.need }
+        ensures { result ≡ slice_get (needs_of (at_task (tasks known.now) (slice_get (given_steps self.now.steps) link.consumer))) link.need }
     {
-        self.task(known, link.consumer)?.need(link.need)
+        self.task(known, link.consumer)?.needs().get(link.need)
     }
 
-    /// Whether the task of step `s` is primitive.
-    fn is_primitive_step(&self, known: &Tasks, s: u8) -> bool
-        ensures { result ≡ primitive_at (tasks known.now) (items self.now.steps) s }
+    /// Whether the fields of a link name a link's ends, which name one fact.
+    fn check_ends(&self, known: &Tasks, l: Link) -> Result<(), Refusal>
+        ensures { refused result ≡ first_cause (end_causes (tasks known.now) (given_steps self.now.steps) l) }
     {
-        match self.task(known, s) {
-            Some(t) => t.is_primitive(),
-            None => false,
-        }
-    }
-
-    /// Why the fields of a link name nothing that could be linked, if that is so.
-    fn bad_ends(&self, known: &Tasks, l: Link) -> Option<Answer>
-        ensures { option_map row result ≡ first_cause (end_causes (tasks known.now) (items self.now.steps) l) }
-    {
-        bad_ends(
+        check_ends(
             self.is_step(l.producer),
             self.fact_of(known, l),
             self.is_step(l.consumer),
@@ -98,10 +75,8 @@ impl Plan {
         if !has_room(&self.links, l) {
             return Err(Refusal::LimitPassed);
         }
-        if !arrange(keeper, l.producer, l.consumer, ordered) {
-            return Err(Refusal::Circle);
-        }
-        join(&mut self.links, l);
+        arrange(keeper, l.producer, l.consumer, ordered)?;
+        join(&mut self.links, l)?;
         Ok(0)
     }
 
@@ -109,14 +84,11 @@ impl Plan {
     /// then on. A link that stands already is accepted again, also on a full list. The plan has no more step numbers than the
     /// keeper.
     pub fn put_link<K: Keeper>(&mut self, keeper: &mut K, known: &Tasks, link: Link) -> Answer
-        ensures answer { length (items self.old.steps) ≤ K.CAPACITY → row result ≡ first_of (link_causes (tasks known.now) (items self.old.steps) (items self.old.links) (K.before keeper.old) 256 link) 0 }
+        ensures answer { length (given_steps self.old.steps) ≤ K.CAPACITY → row result ≡ first_of (link_causes (tasks known.now) (given_steps self.old.steps) (items self.old.links) (K.before keeper.old) 256 link) 0 }
         ensures after { plan (K.before keeper.new) self.new ≡ told (row result) (plan_link (tasks known.now) (plan (K.before keeper.old) self.old) link) (plan (K.before keeper.old) self.old) }
     {
-        if let Some(refusal) = self.bad_ends(known, link) {
-            return refusal;
-        }
-        let from = self.is_primitive_step(known, link.producer);
-        let to = self.is_primitive_step(known, link.consumer);
-        self.tie(keeper, link, from & to)
+        self.check_ends(known, link)?;
+        let ordered = self.steps.has_primitive_ends(known, link);
+        self.tie(keeper, link, ordered)
     }
 }

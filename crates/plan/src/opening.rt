@@ -2,9 +2,9 @@
 ghost use Rattle.std.specs.Prelude.{◌≡◌, [], ◌∷◌, Some};
 ghost use Rattle.fixed.specs.Items.{items};
 ghost use Rattle.semantics.specs.States.{opening_plan};
-ghost use Rattle.plan.specs.Meaning.{plan};
+ghost use Rattle.plan.specs.Meaning.{given_steps, plan};
 
-use crate::Plan;
+use crate::{Plan, Steps};
 use fixed::Fixed;
 use order::Keeper;
 use semantics::Link;
@@ -21,20 +21,12 @@ fn framed<K: Keeper>() -> K
 impl Plan {
     /// The steps init (0) and goal (1), and no links.
     fn framed() -> Plan
-        ensures steps { items result.steps ≡ Some 0 ∷ Some 1 ∷ [] }
+        ensures steps { given_steps result.steps ≡ Some 0 ∷ Some 1 ∷ [] }
         ensures links { items result.links ≡ [] }
     {
-        let mut steps = Fixed::new(None);
-        let _ = steps.push(Some(0));
-        let _ = steps.push(Some(1));
         Plan {
-            steps,
-            links: Fixed::new(Link {
-                producer: 0,
-                add: 0,
-                consumer: 0,
-                need: 0,
-            }),
+            steps: Steps::framed(),
+            links: Fixed::new(Link::default()),
         }
     }
 

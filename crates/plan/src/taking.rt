@@ -1,7 +1,6 @@
 //! Taking steps: by order alone.
 ghost use Rattle.std.specs.Prelude.{◌≡◌, ℕ, List, [], if◌then◌else◌, Some, None};
 ghost use Rattle.std.specs.List.{slice_get};
-ghost use Rattle.fixed.specs.Items.{items};
 ghost use Rattle.masks.specs.Bits.{bit};
 ghost use Rattle.semantics.specs.Causes.{first_such};
 ghost use Rattle.page.specs.Answers.{row};
@@ -11,7 +10,7 @@ ghost use Rattle.semantics.specs.Plans as planned;
 ghost use Rattle.semantics.specs.Tasks as meant;
 ghost use Rattle.domain.specs.Meaning.{task, tasks};
 ghost use Rattle.plan.specs.Following.{Follows, is_behind, Took};
-ghost use Rattle.plan.specs.Meaning.{plan};
+ghost use Rattle.plan.specs.Meaning.{given_steps, plan};
 ghost use Rattle.plan.specs.Turns.{at_step};
 
 use crate::{Plan, Progress};
@@ -24,7 +23,7 @@ use page::{Answer, Refusal};
 fn facts_after(done: &Task, facts: u64) -> u64
     ensures { (f : ℕ) → bit result f ≡ after (task done.now) (bit facts) f }
 {
-    done.add_mask() | facts & !done.delete_mask()
+    done.adds().mask() | facts & !done.deletes().mask()
 }
 
 impl Progress {
@@ -39,36 +38,17 @@ impl Progress {
 impl Plan {
     /// The facts after a step of the plan is carried out.
     fn facts_then(&self, known: &Tasks, facts: u64, s: u8) -> u64
-        ensures { (f : ℕ) → bit result f ≡ after_step (at_task (tasks known.now) (slice_get (items self.now.steps) s)) (bit facts) f }
+        ensures { (f : ℕ) → bit result f ≡ after_step (at_task (tasks known.now) (slice_get (given_steps self.now.steps) s)) (bit facts) f }
     {
-        match self.task(known, s) {
-            Some(done) => facts_after(done, facts),
-            None => facts,
-        }
-    }
-
-    /// The step, if it is present, before step `s`, and not yet taken.
-    fn behind_at<K: Keeper>(&self, keeper: &K, taken: u64, s: u8, x: u8) -> Option<u8>
-        ensures { result ≡ at_step (items self.now.steps) (λ y. (if is_behind (K.before keeper.now) taken s y then Some y else None)) x }
-    {
-        self.task_number(x)?;
-        if x < 64 && keeper.before(x, s) && !marked(taken, x) {
-            Some(x)
-        } else {
-            None
-        }
+        self.task(known, s)
+            .map_or(facts, |done| facts_after(done, facts))
     }
 
     /// The lowest step before step `s` that is not yet taken.
     fn first_behind<K: Keeper>(&self, keeper: &K, taken: u64, s: u8) -> Option<u8>
-        ensures { result ≡ first_such (is_behind (K.before keeper.now) taken s) (present_from 0 (items self.now.steps)) }
+        ensures { result ≡ first_such (is_behind (K.before keeper.now) taken s) (present_from 0 (given_steps self.now.steps)) }
     {
-        for x in 0..self.given() {
-            if let Some(found) = self.behind_at(keeper, taken, s, x) {
-                return Some(found);
-            }
-        }
-        None
+        (0..self.given()).find(|x| self.is_step(*x) && keeper.before(*x, s) && !marked(taken, *x))
     }
 
     /// R: takes a step, by order alone. The facts just after are the answer. A refused step leaves the progress as it was.
@@ -84,7 +64,7 @@ impl Plan {
     ) -> Answer
         ensures { (taken : List ℕ) → Follows (tasks known.now) (plan (K.before keeper.now) self.now) taken progress.old → Took (tasks known.now) (plan (K.before keeper.now) self.now) taken s (row result) progress.new }
     {
-        if s >= self.given() || !self.is_step(s) {
+        if !self.is_step(s) {
             return Err(Refusal::NoSuchName { field: 1 });
         }
         if marked(progress.taken, s) {

@@ -1,21 +1,18 @@
-use Rattle.std.proofs.Common.{cond, Some, None, sym, arith}
-use Rattle.fixed.specs.Items.{items}
-use Rattle.semantics.specs.Causes.{first_such}
+use Rattle.std.proofs.Common.{ℕ, ◌&&◌, refl, sym, ap, ◌∙◌, rules, tests, arith}
+use Rattle.std.specs.List.{find, range_with_len}
+use Rattle.std.proofs.lemmas.Iterator.{YieldsList-from_range}
+use Rattle.std.proofs.lemmas.Iterator.Adapters.{option_map_id}
+use Rattle.std.proofs.lemmas.Iterator.Search.{find_from_yields_List}
+use Rattle.semantics.specs.OpenLines.{is_step}
 use Rattle.plan.specs.Following.{is_behind}
-use Rattle.plan.proofs.Ups.{seeks_such, seek_on, seek_here, seek_end}
+use Rattle.plan.specs.Meaning.{given_steps}
+use Rattle.plan.proofs.Finds.{first_step}
 use Rattle.plan.proofs.plan.Plan.first_behind.Goals as goal
-
-pub returns-in-Some : goal.returns-in-Some
-returns-in-Some g c =
-    let test = is_behind (g.K.Keeper.before c.args.keeper.now) c.args.taken c.args.s in
-    seek_here (first_such test) (λ y. cond (test y) (Some y) None) (seeks_such test) (items c.args.self.now.steps) c.loop-x.x _ (omega (arith, c.given-x-end.ensures.value)) (sym c.in-Some.ensures) c.loop-x.invariant
-
-pub loop-x-preserved : goal.loop-x-preserved
-loop-x-preserved g c =
-    let test = is_behind (g.K.Keeper.before c.args.keeper.now) c.args.taken c.args.s in
-    seek_on (first_such test) (λ y. cond (test y) (Some y) None) (seeks_such test) (items c.args.self.now.steps) c.loop-x.x (omega (arith, c.given-x-end.ensures.value)) (sym c.in_default.ensures) c.loop-x.invariant
 
 pub returns : goal.returns
 returns g c =
+    let os = given_steps c.args.self.now.steps in
     let test = is_behind (g.K.Keeper.before c.args.keeper.now) c.args.taken c.args.s in
-    seek_end (first_such test) (λ y. cond (test y) (Some y) None) (seeks_such test) (items c.args.self.now.steps) c.loop-x.x (omega (arith, c.given-x-end.ensures.value)) c.loop-x.invariant
+    let wanted = λ (x : ℕ). is_step os x && test x in
+    let e = find_from_yields_List wanted _ _ c.find.result c.find.ensures.ran (YieldsList-from_range 0 c.given.result c.given.result refl (omega arith)) (λ x b q k. search (rules, tests)) in
+    sym (option_map_id c.find.result) ∙ e ∙ ap (λ n. find wanted (range_with_len 0 n)) c.given.ensures.value ∙ first_step test os
