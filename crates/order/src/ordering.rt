@@ -63,7 +63,10 @@ impl<const N: usize> Table<N> {
     pub fn before(&self, a: u8, b: u8) -> bool
         ensures { result ≡ relation self.now a b }
     {
-        (a as usize) < N && (b as usize) < N && marked(self.rows[a as usize], b)
+        if a as usize >= N || b as usize >= N {
+            return false;
+        }
+        marked(self.rows[a as usize], b)
     }
 
     /// Whether the pair is not refused.

@@ -135,6 +135,26 @@ mod tests {
         circle_at::<PairList>(&rt)
     }
 
+    fn row_at<K: Keeper>(rt: &impl Abort) -> Result<(), Fail> {
+        let mut keeper = K::new();
+        keeper.put(2, 5)?;
+        keeper.put(5, 7)?;
+        let mut row = K::new();
+        row.put_row(&keeper, 2);
+        assert!(rt; row.before(2, 5));
+        assert!(rt; row.before(2, 7));
+        assert!(rt; !row.before(5, 7));
+        row.put_row(&keeper, 5);
+        assert!(rt; same_order(&row, &keeper));
+        Ok(())
+    }
+
+    #[test]
+    fn rows_are_copied(rt: HostRuntime) -> Result<(), Fail> {
+        row_at::<BitTable>(&rt)?;
+        row_at::<PairList>(&rt)
+    }
+
     fn past<K: Keeper>(rt: &impl Abort) -> Result<(), Fail> {
         let mut keeper = K::new();
         let over = K::CAPACITY;

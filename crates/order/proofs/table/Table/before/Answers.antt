@@ -2,12 +2,12 @@ use Rattle.std.proofs.Common.{arith}
 use Rattle.std.proofs.lemmas.Bool.Decides.{nat_tests}
 use Rattle.order.specs.Tables.{relation}
 use Rattle.order.proofs.table.Table.before.Goals as goal
-use Rattle.order.proofs.table.Table.before.Goals.{else-a, then-a}
+use Rattle.order.proofs.table.Table.before.Goals.{then-a-via-else-a+then-b, then-a-via-then-a}
 
-pub returns-then-b : goal.returns-then-b
+pub returns-then-a : goal.returns-then-a
 unfolding relation
-returns-then-b g c = elim c.if-a.branch [ then-a w ↦ grind (arith, nat_tests, c.marked.ensures, c.if-b.true, w.value-is) | else-a w ↦ grind (arith, nat_tests, c.marked.ensures, c.if-b.true, w.value-is) ]
+returns-then-a g c = elim c.then-a.branch [ then-a-via-then-a w ↦ grind (arith, nat_tests, w.if-a) | then-a-via-else-a+then-b w ↦ grind (arith, nat_tests, w.if-b) ]
 
-pub returns-else-b : goal.returns-else-b
+pub returns : goal.returns
 unfolding relation
-returns-else-b g c = elim c.if-a.branch [ then-a w ↦ grind (arith, nat_tests, c.if-b.false, w.value-is) | else-a w ↦ grind (arith, nat_tests, c.if-b.false, w.value-is, w.if-a) ]
+returns g c = grind (arith, nat_tests, c.marked.ensures)
