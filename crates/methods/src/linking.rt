@@ -66,7 +66,7 @@ impl Method {
             return Err(Refusal::LimitPassed);
         }
         arrange(&mut self.order, l.producer, l.consumer, ordered)?;
-        join(&mut self.links, l)?;
+        join(&mut self.links, l);
         Ok(0)
     }
 

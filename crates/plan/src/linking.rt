@@ -76,7 +76,7 @@ impl Plan {
             return Err(Refusal::LimitPassed);
         }
         arrange(keeper, l.producer, l.consumer, ordered)?;
-        join(&mut self.links, l)?;
+        join(&mut self.links, l);
         Ok(0)
     }
 
