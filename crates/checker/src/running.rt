@@ -35,6 +35,7 @@ impl<K: Keeper> Checker<K> {
         ensures within { (result.next ≤ length text.now) × (result.written ≤ length page.old) }
         ensures runs { (past : History) → Means (held (K.before self.old.keeper) self.old) (state K.CAPACITY past) → Runs K.CAPACITY past text.now page.old result.next result.written page.new (held (K.before self.new.keeper) self.new) }
     {
+        // The place of the next line is part of the answer, so the loop goes by places and not over `Lines`.
         let mut next = 0;
         let mut written = 0;
         while has_room(page, written) {

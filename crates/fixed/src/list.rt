@@ -6,6 +6,7 @@ use std::alloc::AllocError;
 #[derive(Clone, Copy, PartialEq, Eq, Debug)]
 pub struct Full;
 
+// Not `Vec`, since the libraries use no heap.
 /// A list of at most N things: the first `count` places of an array. The places after them say nothing.
 pub struct Fixed<T, const N: usize> {
     pub(super) slots: [T; N],

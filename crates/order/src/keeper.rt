@@ -62,6 +62,7 @@ pub trait Keeper: Sized + Drop {
     }
 
     /// A keeper of the same order.
+    // No bound `Copy` or `Clone`: a keeper of another making need have neither, and `clone` may fail for want of memory.
     fn copied(&self) -> Self
         ensures { before result ≡ before self.now }
     {

@@ -8,6 +8,8 @@ ghost use Rattle.semantics.specs.Orders.{dropped, put, Smallest};
 use crate::{Refused, Table};
 use masks::{marked, only};
 
+// `a` is a number of the caller's, below 64 in each of these; a type for such numbers would be one more conversion at each call.
+
 /// Row `x` after a put: joined with `after` where `x` is `a` or before `a`.
 fn grown_row(row: u64, x: usize, a: u8, after: u64) -> u64
     requires { a < 64 }

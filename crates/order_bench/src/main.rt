@@ -18,6 +18,8 @@ enum Shape {
     Full,
 }
 
+// An enum and not a closure for each shape: its count and its pairs stand side by side, and the report names it.
+
 /// How many pairs are put for an order of the shape.
 fn puts_of(shape: Shape) -> u32
     ensures { result < 1000 }

@@ -21,6 +21,7 @@ impl fmt::Display for Shown<'_> {
 }
 
 /// One byte, as it is printed.
+// By hand: std has no escape that leaves quotation marks as they are.
 fn show_byte<W: fmt::Write>(b: u8, f: &mut fmt::Formatter<W>) -> fmt::Result {
     match b {
         b'\\' => write!(f, "\\\\"),
