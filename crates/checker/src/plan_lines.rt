@@ -26,7 +26,7 @@ fn judged(domain: &mut Domain, answer: Answer)
 impl<K: Keeper> Checker<K> {
     /// S: a new step of a task, of the open method or of the initial plan.
     pub(super) fn new_step(&mut self, task: u8) -> Answer
-        ensures { Obeys K.capacity (tells.NewStep task) (row result) (held (K.before self.old.keeper) self.old) (held (K.before self.new.keeper) self.new) }
+        ensures { Obeys K.CAPACITY (tells.NewStep task) (row result) (held (K.before self.old.keeper) self.old) (held (K.before self.new.keeper) self.new) }
     {
         match self.domain.phase() {
             Phase::Initial => self
@@ -38,7 +38,7 @@ impl<K: Keeper> Checker<K> {
 
     /// O: one step before another, of the open method or of the plan.
     pub(super) fn put_order(&mut self, earlier: u8, later: u8) -> Answer
-        ensures { Obeys K.capacity (tells.PutOrder earlier later) (row result) (held (K.before self.old.keeper) self.old) (held (K.before self.new.keeper) self.new) }
+        ensures { Obeys K.CAPACITY (tells.PutOrder earlier later) (row result) (held (K.before self.old.keeper) self.old) (held (K.before self.new.keeper) self.new) }
     {
         match self.domain.phase() {
             Phase::Initial | Phase::Refine => {
@@ -50,7 +50,7 @@ impl<K: Keeper> Checker<K> {
 
     /// L: a link from an add of one step to a need of another, of the open method or of the plan.
     pub(super) fn put_link(&mut self, link: Link) -> Answer
-        ensures { Obeys K.capacity (tells.PutLink link.producer link.add link.consumer link.need) (row result) (held (K.before self.old.keeper) self.old) (held (K.before self.new.keeper) self.new) }
+        ensures { Obeys K.CAPACITY (tells.PutLink link.producer link.add link.consumer link.need) (row result) (held (K.before self.old.keeper) self.old) (held (K.before self.new.keeper) self.new) }
     {
         match self.domain.phase() {
             Phase::Initial | Phase::Refine => {
@@ -63,7 +63,7 @@ impl<K: Keeper> Checker<K> {
 
     /// X: a step of the plan is decomposed by a method.
     pub(super) fn decompose(&mut self, step: u8, method: u8) -> Answer
-        ensures { Obeys K.capacity (tells.Decompose step method) (row result) (held (K.before self.old.keeper) self.old) (held (K.before self.new.keeper) self.new) }
+        ensures { Obeys K.CAPACITY (tells.Decompose step method) (row result) (held (K.before self.old.keeper) self.old) (held (K.before self.new.keeper) self.new) }
     {
         match self.domain.phase() {
             Phase::Refine => decompose(
@@ -79,7 +79,7 @@ impl<K: Keeper> Checker<K> {
 
     /// J: the plan is judged. An accepted plan is carried out from then on; a refused one stays open to more lines.
     pub(super) fn judge(&mut self) -> Answer
-        ensures { Obeys K.capacity tells.Judge (row result) (held (K.before self.old.keeper) self.old) (held (K.before self.new.keeper) self.new) }
+        ensures { Obeys K.CAPACITY tells.Judge (row result) (held (K.before self.old.keeper) self.old) (held (K.before self.new.keeper) self.new) }
     {
         let Phase::Refine = self.domain.phase() else {
             return Err(Refusal::WrongPhase);
@@ -91,7 +91,7 @@ impl<K: Keeper> Checker<K> {
 
     /// R: a step is taken, by order alone.
     pub(super) fn take(&mut self, step: u8) -> Answer
-        ensures { Obeys K.capacity (tells.Take step) (row result) (held (K.before self.old.keeper) self.old) (held (K.before self.new.keeper) self.new) }
+        ensures { Obeys K.CAPACITY (tells.Take step) (row result) (held (K.before self.old.keeper) self.old) (held (K.before self.new.keeper) self.new) }
     {
         match self.domain.phase() {
             Phase::Running => {

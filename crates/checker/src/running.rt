@@ -23,7 +23,7 @@ impl<K: Keeper> Checker<K> {
     fn answer_on(&mut self, line: &[u8], page: &mut [u8], at: usize) -> usize
         requires { fits page.old at ≡ true }
         ensures within { result ≤ length page.old }
-        ensures told { (past : History) → Means (held (K.before self.old.keeper) self.old) (state K.capacity past) → AnsweredOn K.capacity past line.now page.old at result page.new (held (K.before self.new.keeper) self.new) }
+        ensures told { (past : History) → Means (held (K.before self.old.keeper) self.old) (state K.CAPACITY past) → AnsweredOn K.CAPACITY past line.now page.old at result page.new (held (K.before self.new.keeper) self.new) }
     {
         let answer = self.tell(line);
         answer.write(page, at).unwrap_or(at)
@@ -33,8 +33,9 @@ impl<K: Keeper> Checker<K> {
     /// page are free. Later bytes of the page stay as they are.
     pub fn run(&mut self, text: &[u8], page: &mut [u8]) -> Ran
         ensures within { (result.next ≤ length text.now) × (result.written ≤ length page.old) }
-        ensures runs { (past : History) → Means (held (K.before self.old.keeper) self.old) (state K.capacity past) → Runs K.capacity past text.now page.old result.next result.written page.new (held (K.before self.new.keeper) self.new) }
+        ensures runs { (past : History) → Means (held (K.before self.old.keeper) self.old) (state K.CAPACITY past) → Runs K.CAPACITY past text.now page.old result.next result.written page.new (held (K.before self.new.keeper) self.new) }
     {
+        // The place of the next line is part of the answer, so the loop goes by places and not over `Lines`.
         let mut next = 0;
         let mut written = 0;
         while has_room(page, written) {

@@ -18,7 +18,7 @@ use told_domain::Domain;
 impl<K: Keeper> Checker<K> {
     /// A checker before its first line.
     pub fn open() -> Checker<K>
-        ensures { Means (held (K.before result.keeper) result) (state K.capacity []) }
+        ensures { Means (held (K.before result.keeper) result) (state K.CAPACITY []) }
     {
         let (plan, keeper) = Plan::open();
         Checker {
@@ -34,7 +34,7 @@ impl<K: Keeper> Checker<K> {
     /// Whatever lines led from a newly opened checker to this one, its answer and the checker after it are those of the rules, and
     /// all that is promised beside the gate book holds of them.
     pub fn tell(&mut self, line: &[u8]) -> Answer
-        ensures { (told : History) → Means (held (K.before self.old.keeper) self.old) (state K.capacity told) → Kept K.capacity told line.now (row result) (held (K.before self.new.keeper) self.new) }
+        ensures { (told : History) → Means (held (K.before self.old.keeper) self.old) (state K.CAPACITY told) → Kept K.CAPACITY told line.now (row result) (held (K.before self.new.keeper) self.new) }
     {
         match parse(line) {
             Ok(command) => self.carry_out(command),
@@ -44,7 +44,7 @@ impl<K: Keeper> Checker<K> {
 
     /// Carries a command out.
     fn carry_out(&mut self, command: Command) -> Answer
-        ensures { Obeys K.capacity command (row result) (held (K.before self.old.keeper) self.old) (held (K.before self.new.keeper) self.new) }
+        ensures { Obeys K.CAPACITY command (row result) (held (K.before self.old.keeper) self.old) (held (K.before self.new.keeper) self.new) }
     {
         match command {
             Command::NewPrimitive => self.domain.new_task(Kind::Primitive),

@@ -36,7 +36,7 @@ impl Exchange<'_> {
         known: &Tasks,
         after: &Revised,
     ) -> Result<(), Refused>
-        ensures { Tried K.capacity (K.before next.old) (brought (tasks known.now) (K.before keeper.now) self.now (given_steps after.now.steps) (items after.now.links)) (is_ok result) (K.before next.new) }
+        ensures { Tried K.CAPACITY (K.before next.old) (brought (tasks known.now) (K.before keeper.now) self.now (given_steps after.now.steps) (items after.now.links)) (is_ok result) (K.before next.new) }
     {
         self.put_inherited(next, keeper, Side::Before)?;
         self.put_inherited(next, keeper, Side::After)?;
@@ -52,7 +52,7 @@ impl Exchange<'_> {
         known: &Tasks,
         after: &Revised,
     ) -> Result<K, Refused>
-        requires { Revises K.capacity (plan (K.before keeper.now) self.now.target.now) self.now.leaving (method self.now.method.now) (given_steps after.now.steps) (items after.now.links) }
+        requires { Revises K.CAPACITY (plan (K.before keeper.now) self.now.target.now) self.now.leaving (method self.now.method.now) (given_steps after.now.steps) (items after.now.links) }
         ensures { option_map K.before (result_ok result) ≡ try_all (Some (dropped (K.before keeper.now) self.now.leaving)) (new_pairs (tasks known.now) (plan (K.before keeper.now) self.now.target.now) self.now.leaving (method self.now.method.now)) }
     {
         let mut next = keeper.copied();
@@ -73,7 +73,7 @@ pub fn decompose<K: Keeper>(
     s: u8,
     m: u8,
 ) -> Answer
-    ensures answer { row result ≡ first_of (decompose_causes K.capacity (parts domain.now).tasks (parts domain.now).methods (plan (K.before keeper.old) target.old) s m) (length (plan (K.before keeper.old) target.old).steps) }
+    ensures answer { row result ≡ first_of (decompose_causes K.CAPACITY (parts domain.now).tasks (parts domain.now).methods (plan (K.before keeper.old) target.old) s m) (length (plan (K.before keeper.old) target.old).steps) }
     ensures after { plan (K.before keeper.new) target.new ≡ told (row result) (decompose_with (parts domain.now).tasks (plan (K.before keeper.old) target.old) s (slice_get (parts domain.now).methods m)) (plan (K.before keeper.old) target.old) }
     ensures same { ((row result).code == 0) ≡ false → (keeper.new ≡ keeper.old) × (target.new ≡ target.old) }
 {
@@ -89,10 +89,8 @@ pub fn decompose<K: Keeper>(
         leaving: s,
         method: by,
     };
-    let after = exchange.revise(K::steps())?;
-    let next = exchange
-        .order_after(keeper, domain.tasks(), &after)
-        .map_err(|_| Refusal::Circle)?;
+    let after = exchange.revise(K::CAPACITY)?;
+    let next = exchange.order_after(keeper, domain.tasks(), &after)?;
     let number = exchange.first() as u64;
     *keeper = next;
     target.revise(after.steps, after.links);

@@ -37,7 +37,7 @@ impl Exchange<'_> {
         keeper: &K,
         side: Side,
     ) -> Result<(), Refused>
-        ensures { Tried K.capacity (K.before next.old) (inherited side (K.before keeper.now) self.now.leaving (present_from 0 (old_steps self.now)) (numbers self.now)) (is_ok result) (K.before next.new) }
+        ensures { Tried K.CAPACITY (K.before next.old) (inherited side (K.before keeper.now) self.now.leaving (present_from 0 (old_steps self.now)) (numbers self.now)) (is_ok result) (K.before next.new) }
     {
         let old = (0..self.target.given()).filter(|x| self.is_beside(keeper, side, *x));
         let pairs = old.flat_map(|x| self.numbers().map(move |y| side.pair(x, y)));

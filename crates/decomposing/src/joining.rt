@@ -17,7 +17,7 @@ use semantics::Link;
 impl Exchange<'_> {
     /// Puts the method's own order.
     pub fn put_own<K: Keeper>(&self, next: &mut K) -> Result<(), Refused>
-        ensures { Tried K.capacity (K.before next.old) (shifted (first self.now) (pairs_of (method self.now.method.now))) (is_ok result) (K.before next.new) }
+        ensures { Tried K.CAPACITY (K.before next.old) (shifted (first self.now) (pairs_of (method self.now.method.now))) (is_ok result) (K.before next.new) }
     {
         let count = self.method.count_steps();
         let own = (0..count).flat_map(|a| {
@@ -36,7 +36,7 @@ pub fn put_links<K: Keeper>(
     steps: &Steps,
     links: &[Link],
 ) -> Result<(), Refused>
-    ensures { Tried K.capacity (K.before next.old) (link_pairs (tasks known.now) (given_steps steps.now) links.now) (is_ok result) (K.before next.new) }
+    ensures { Tried K.CAPACITY (K.before next.old) (link_pairs (tasks known.now) (given_steps steps.now) links.now) (is_ok result) (K.before next.new) }
 {
     let ordering = links
         .iter()

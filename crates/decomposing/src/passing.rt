@@ -14,7 +14,7 @@ ghost use Rattle.decomposing.specs.Joining.{Joined};
 
 use crate::exchange::Exchange;
 use fixed::{Fixed, Full};
-use links::join;
+use links::try_join;
 use methods::Entry;
 use page::Side;
 use semantics::Link;
@@ -27,7 +27,7 @@ fn joined<I: Iterator<Item = Link> + Drop>(links: I) -> Result<Fixed<Link, 256>,
 {
     let mut list = Fixed::new(Link::default());
     for link in links {
-        join(&mut list, link)?;
+        try_join(&mut list, link)?;
     }
     Ok(list)
 }

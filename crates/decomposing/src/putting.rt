@@ -12,7 +12,7 @@ pub fn put_each<K: Keeper, I: Iterator<Item = (u8, u8)> + Drop>(
 ) -> Result<(), Refused>
     requires can { I.can_next pairs }
     requires ends { IsFinite (I.remaining pairs) }
-    ensures { (ps : List (ℕ × ℕ)) → AlwaysYields I.next_gives (λ p. p) pairs ps → Tried K.capacity (K.before next.old) ps (is_ok result) (K.before next.new) }
+    ensures { (ps : List (ℕ × ℕ)) → AlwaysYields I.next_gives (λ p. p) pairs ps → Tried K.CAPACITY (K.before next.old) ps (is_ok result) (K.before next.new) }
 {
     for (a, b) in pairs {
         next.put(a, b)?;

@@ -38,11 +38,7 @@ impl<T: Copy, const N: usize> Fixed<T, N> {
         ensures item { option_map (λ x. x.now) result ≡ slice_get (items self.now) i }
         ensures bound { is_some result ≡ true → i < N }
     {
-        if i < self.count as usize {
-            Some(&self.slots[i])
-        } else {
-            None
-        }
+        self.as_slice().get(i)
     }
 
     /// All that the list holds, in its order.

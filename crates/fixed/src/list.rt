@@ -6,6 +6,7 @@ use std::alloc::AllocError;
 #[derive(Clone, Copy, PartialEq, Eq, Debug)]
 pub struct Full;
 
+// Not `Vec`, since the libraries use no heap.
 /// A list of at most N things: the first `count` places of an array. The places after them say nothing.
 pub struct Fixed<T, const N: usize> {
     pub(super) slots: [T; N],
@@ -15,7 +16,7 @@ pub struct Fixed<T, const N: usize> {
     ghost whole: { length slots ≡ N },
 }
 
-// By hand: `Clone` can't be derived where a struct of a type parameter has ghost fields.
+// Not derived: `Clone` is refused for a struct with a type parameter and a ghost field.
 impl<T: Copy, const N: usize> Clone for Fixed<T, N> {
     ghost is_clone = { λ old new. new ≡ old };
 

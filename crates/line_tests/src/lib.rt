@@ -2,14 +2,14 @@
 #![tactic(auto)]
 
 use line::{Command, parse};
-use page::{Answer, line_at};
+use page::{Answer, Refusal, Row, line_at, write};
 
 /// The code and the number a of a line that is turned down before the checker is asked; `(0, 0)` for any other.
 pub fn refusal(line: &[u8]) -> (u8, u64) {
     match parse(line) {
         Ok(_) => (0, 0),
         Err(cause) => {
-            let row = Answer::from(cause).row();
+            let row = Row::from(Refusal::from(cause));
             (row.code, row.a)
         }
     }
@@ -184,17 +184,17 @@ mod tests {
     #[test]
     fn rows_on_a_page(rt: HostRuntime) {
         let mut page = [b'.'; 60];
-        let most = Answer::Accepted { number: u64::MAX };
-        assert_eq!(rt; most.write(&mut page, 33), None);
-        assert_eq!(rt; most.write(&mut page, 61), None);
+        let most: Answer = Ok(u64::MAX);
+        assert_eq!(rt; write(most, &mut page, 33), None);
+        assert_eq!(rt; write(most, &mut page, 61), None);
         assert!(rt; page == [b'.'; 60]);
-        assert_eq!(rt; most.write(&mut page, 32), Some(60));
-        let threat = Answer::Threatened {
+        assert_eq!(rt; write(most, &mut page, 32), Some(60));
+        let threat = Err(Refusal::Threatened {
             threat: 3,
             producer: 14,
             consumer: 5,
-        };
-        assert_eq!(rt; threat.write(&mut page, 2), Some(13));
+        });
+        assert_eq!(rt; write(threat, &mut page, 2), Some(13));
         assert!(rt; &page[0..32] == b"..16,3,14,5\r\n...................".as_slice());
         assert!(rt; &page[32..60] == b"0,18446744073709551615,0,0\r\n".as_slice());
     }

@@ -7,4 +7,4 @@ mod ends;
 mod listing;
 
 pub use ends::check_ends;
-pub use listing::{has_room, is_linked, join};
+pub use listing::{has_room, is_linked, join, try_join};

@@ -22,7 +22,7 @@ pub fn has_room<const N: usize>(links: &Fixed<Link, N>, l: Link) -> bool
 }
 
 /// Ends the list with the link, unless it stands there. A full list takes no further link, and stays as it is.
-pub fn join<const N: usize>(links: &mut Fixed<Link, N>, l: Link) -> Result<(), Full>
+pub fn try_join<const N: usize>(links: &mut Fixed<Link, N>, l: Link) -> Result<(), Full>
     ensures room { is_ok result ≡ not (is_full N (items links.old) l) }
     ensures after { items links.new ≡ (if is_ok result then with_link (items links.old) l else items links.old) }
 {
@@ -30,4 +30,11 @@ pub fn join<const N: usize>(links: &mut Fixed<Link, N>, l: Link) -> Result<(), F
         return Ok(());
     }
     links.push(l)
+}
+
+/// Ends the list with the link, unless it stands there or the list has no room for it.
+pub fn join<const N: usize>(links: &mut Fixed<Link, N>, l: Link)
+    ensures { items links.new ≡ (if is_full N (items links.old) l then items links.old else with_link (items links.old) l) }
+{
+    let _ = try_join(links, l);
 }

@@ -1,4 +1,3 @@
-pub mod Growing
 pub mod Labels
 pub mod Ends
 pub mod Steps

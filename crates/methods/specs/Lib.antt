@@ -1,5 +1,3 @@
-pub mod Rows
-pub mod SmallOrders
 pub mod Ends
 pub mod Routes
 pub mod Places

@@ -55,9 +55,7 @@ impl Method {
         if !self.has_step(later) {
             return Err(Refusal::NoSuchName { field: 2 });
         }
-        if !self.order.put(earlier, later) {
-            return Err(Refusal::Circle);
-        }
+        self.order.put(earlier, later)?;
         Ok(0)
     }
 }

@@ -9,11 +9,8 @@ mod entries;
 mod linking;
 mod lookup;
 mod method;
-mod ordering;
 mod placing;
 mod routing;
-mod small_order;
 
 pub use entries::{Entries, Entry};
-pub use method::Method;
-pub use small_order::SmallOrder;
+pub use method::{Method, SmallOrder};

@@ -1,8 +1,7 @@
 //! Lines that tell tasks and methods, and their rows, written down from the rules.
 #![tactic(auto)]
 
-use domain::Kind;
-use line::{Command, parse};
+use line::parse;
 use page::{Answer, Row};
 use semantics::Link;
 use told_domain::Domain;
@@ -12,46 +11,18 @@ pub type Numbers = (u8, u64, u64, u64);
 
 /// An answer as the numbers of its row.
 pub fn numbers(answer: Answer) -> Numbers {
-    let Row { code, a, b, c } = answer.row();
+    let Row { code, a, b, c } = Row::from(answer);
     (code, a, b, c)
 }
 
-/// Carries out a command of the phases before the plan; the letters of the plan have no place there.
-pub fn carry_out(domain: &mut Domain, command: Command) -> Answer {
-    match command {
-        Command::NewPrimitive => domain.new_task(Kind::Primitive),
-        Command::NewCompound => domain.new_task(Kind::Compound),
-        Command::AppendNeed { task, fact } => domain.append_need(task, fact),
-        Command::AppendAdd { task, fact } => domain.append_add(task, fact),
-        Command::AppendDelete { task, fact } => domain.append_delete(task, fact),
-        Command::EndPhase => domain.end_phase(),
-        Command::OpenMethod { task } => domain.open_method(task),
-        Command::NewStep { task } => domain.new_step(task),
-        Command::PutOrder { earlier, later } => domain.put_order(earlier, later),
-        Command::PutLink {
-            producer,
-            add,
-            consumer,
-            need,
-        } => domain.put_link(Link {
-            producer,
-            add,
-            consumer,
-            need,
-        }),
-        Command::RouteNeed { need, step, label } => domain.route_need(need, step, label),
-        Command::RouteAdd { add, step, label } => domain.route_add(add, step, label),
-        Command::CloseMethod => domain.close_method(),
-        Command::Decompose { .. } | Command::Judge | Command::Take { .. } => Err(Refusal::WrongPhase),
-    }
+/// The answer to a line of the phases before the plan; the letters of the plan have no place there.
+pub fn answer(domain: &mut Domain, line: &str) -> Answer {
+    domain.carry_out(parse(line.as_bytes())?)
 }
 
 /// The row of a line, told to the domain.
 pub fn told(domain: &mut Domain, line: &str) -> Numbers {
-    match parse(line.as_bytes()) {
-        Ok(command) => numbers(carry_out(domain, command)),
-        Err(cause) => numbers(Answer::from(cause)),
-    }
+    numbers(answer(domain, line))
 }
 
 /// Tells some lines, and answers the place of the first whose row is not the one that stands beside it.

@@ -1,31 +1,18 @@
 -- A step dropped from a list of pairs: the other pairs, and those that ran through it.
-use Rattle.std.proofs.Common.{◌≡◌, ℕ, ◌+◌, ◌<◌, Bool, true, false, cond, not, ◌&&◌, eqb, ◌⊎◌, List, [], ◌∷◌, ◌++◌, length, get_or, drop, sym, refl, ap, ◌∙◌, subst, inl, inr, ⊎_elim, arith}
+use Rattle.std.proofs.Common.{◌≡◌, ℕ, ◌+◌, ◌<◌, Bool, true, false, cond, eqb, ◌⊎◌, List, [], ◌∷◌, ◌++◌, length, get_or, drop, sym, refl, ap, ◌∙◌, subst, inl, inr, ⊎_elim, arith}
 use Rattle.std.proofs.lemmas.List.{at_drop_more}
 use Rattle.std.proofs.lemmas.Bool.{cases_eq, cond-true, eq-eqb, ne_eqb}
 use Rattle.std.proofs.lemmas.Bool.Decides.{nat_tests}
 use Rattle.order.specs.Puts.{can_put, nothing, Order}
 use Rattle.order.specs.Stored.{closure, onward, others, put_or_not, put_some, through}
-use Rattle.order.proofs.Copies.{free_within}
+use Rattle.order.proofs.Copying.{free_within}
 use Rattle.order.specs.Lists.{closure_has, closure_least}
 use Rattle.order.specs.Ordered.{free_put, order_dropped, same_pairs}
 use Rattle.semantics.specs.Closures.{Listed}
 use Rattle.semantics.specs.Orders.{dropped, Holds, put, Relation, Transitive}
 use Rattle.semantics.proofs.Orders.{put_smallest}
 
--- what each turn of the loops does
-some_cond : (n : ℕ) (R : Relation) (t : Bool) (p : ℕ × ℕ) (ps : List (ℕ × ℕ))
-    → put_some n R (cond t (p ∷ ps) ps) ≡ put_some n (cond t (put_or_not n R p.0 p.1) R) ps
-some_cond n R true p ps = refl
-some_cond n R false p ps = refl
-
-pub others_more : (n : ℕ) (R : Relation) (a : ℕ) (p : ℕ × ℕ) (ps : List (ℕ × ℕ))
-    → put_some n R (others a (p ∷ ps)) ≡ put_some n (cond (not (eqb p.0 a) && not (eqb p.1 a)) (put_or_not n R p.0 p.1) R) (others a ps)
-others_more n R a p ps = some_cond n R (not (eqb p.0 a) && not (eqb p.1 a)) p (others a ps)
-
-pub onward_more : (n : ℕ) (R : Relation) (a x : ℕ) (p : ℕ × ℕ) (ps : List (ℕ × ℕ))
-    → put_some n R (onward a x (p ∷ ps)) ≡ put_some n (cond (eqb p.0 a) (put_or_not n R x p.1) R) (onward a x ps)
-onward_more n R a x p ps = some_cond n R (eqb p.0 a) (x, p.1) (onward a x ps)
-
+-- what each turn of the loop does
 some_append : (n : ℕ) (R : Relation) (ps qs : List (ℕ × ℕ)) → put_some n R (ps ++ qs) ≡ put_some n (put_some n R ps) qs
 some_append n R [] qs = refl
 some_append n R (p ∷ ps) qs = some_append n (put_or_not n R p.0 p.1) ps qs
@@ -44,18 +31,6 @@ left : {Y : Type 0} (F : List (ℕ × ℕ) → Y) (ps : List (ℕ × ℕ)) (i : 
 left F ps i p l e = at_drop_more F ps i (0, 0) l ∙ ap (λ (q : ℕ × ℕ). F (q ∷ drop (i + 1) ps)) (sym e)
 
 module _ (R : Relation) (a : ℕ) (ps : List (ℕ × ℕ)) (i : ℕ) (p : ℕ × ℕ) (l : i < length ps) (is : p ≡ get_or ps i (0, 0)) (whole : Relation) where
-  pub others_turn : (S : Relation) (wanted : Bool) → wanted ≡ (not (eqb p.0 a) && not (eqb p.1 a)) → S ≡ cond wanted (put_or_not 32 R p.0 p.1) R
-      → put_some 32 R (others a (drop i ps)) ≡ whole → put_some 32 S (others a (drop (i + 1) ps)) ≡ whole
-  others_turn S wanted w e h =
-      ap (λ (Q : Relation). put_some 32 Q (others a (drop (i + 1) ps))) (e ∙ ap (λ (t : Bool). cond t (put_or_not 32 R p.0 p.1) R) w)
-      ∙ sym (others_more 32 R a p (drop (i + 1) ps)) ∙ sym (left (λ q. put_some 32 R (others a q)) ps i p l is) ∙ h
-
-  pub onward_turn : (x : ℕ) (S : Relation) → S ≡ cond (eqb p.0 a) (put_or_not 32 R x p.1) R
-      → put_some 32 R (onward a x (drop i ps)) ≡ whole → put_some 32 S (onward a x (drop (i + 1) ps)) ≡ whole
-  onward_turn x S e h =
-      ap (λ (Q : Relation). put_some 32 Q (onward a x (drop (i + 1) ps))) e
-      ∙ sym (onward_more 32 R a x p (drop (i + 1) ps)) ∙ sym (left (λ q. put_some 32 R (onward a x q)) ps i p l is) ∙ h
-
   pub through_turn : (all : List (ℕ × ℕ)) (S : Relation) → p.1 ≡ a → S ≡ put_some 32 R (onward a p.0 all)
       → put_some 32 R (through a all (drop i ps)) ≡ whole → put_some 32 S (through a all (drop (i + 1) ps)) ≡ whole
   through_turn all S t e h =

@@ -1,5 +1,5 @@
-pub mod Tables
-pub mod Copies
+pub mod Marking
+pub mod Copying
 pub mod Reached
 pub mod Pigeons
 pub mod Room

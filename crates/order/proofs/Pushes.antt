@@ -1,24 +1,24 @@
--- One pair more in the array.
-use Rattle.std.proofs.Common.{◌≡◌, ℕ, ◌+◌, ◌<◌, ◌≤◌, false, List, [], ◌∷◌, ◌++◌, length, take, set, sym, ap, ◌∙◌, subst, arith}
-use Rattle.std.proofs.lemmas.List.{length_push, take_more_set}
+-- One pair more in the list.
+use Rattle.std.proofs.Common.{◌≡◌, ℕ, ◌<◌, Bool, false, cond, ltb, List, [], ◌∷◌, ◌++◌, length, sym, ap, ◌∙◌, subst, arith}
+use Rattle.std.proofs.lemmas.List.{length_push}
+use Rattle.std.proofs.lemmas.Bool.{cond-true, lt-ltb}
 use Rattle.order.specs.Stored.{closure, Stored}
 use Rattle.order.specs.Lists.{closure_push, stored_push}
 use Rattle.order.specs.Ordered.{Free}
-use Rattle.order.proofs.Room.{stored_length, stored_room}
+use Rattle.order.proofs.Room.{stored_room}
 use Rattle.semantics.specs.Orders.{put}
 
-module _ (pairs : List (ℕ × ℕ)) (n : ℕ) (long : length pairs ≡ 496) (room : n ≤ 496) (s : Stored 32 (take n pairs)) (a b : ℕ)
-    (f : Free 32 (closure (take n pairs)) a b) (new : closure (take n pairs) a b ≡ false) where
-  pub push_room : n < 496
-  push_room =
-      let more = stored_room (take n pairs ++ (a, b) ∷ []) (stored_push 32 (take n pairs) s a b f new) in
-      omega (arith, more, length_push (take n pairs) (a, b), stored_length pairs n long room s)
+module _ (ps qs : List (ℕ × ℕ)) (s : Stored 32 ps) (a b : ℕ) (f : Free 32 (closure ps) a b) (new : closure ps a b ≡ false) where
+  -- there is room for a pair that does not follow
+  room : length ps < 496
+  room = let more = stored_room (ps ++ (a, b) ∷ []) (stored_push 32 ps s a b f new) in omega (arith, more, length_push ps (a, b))
 
-  push_is : take (n + 1) (set pairs n (a, b)) ≡ take n pairs ++ (a, b) ∷ []
-  push_is = take_more_set pairs n (a, b) (omega (arith, push_room))
+  module _ (ok : Bool) (test : ok ≡ ltb (length ps) 496) (after : qs ≡ cond ok (ps ++ (a, b) ∷ []) ps) where
+    pushed : qs ≡ ps ++ (a, b) ∷ []
+    pushed = after ∙ cond-true ok _ _ (test ∙ lt-ltb (length ps) 496 room)
 
-  pub push_stored : Stored 32 (take (n + 1) (set pairs n (a, b)))
-  push_stored = subst (λ (l : List (ℕ × ℕ)). Stored 32 l) (sym push_is) (stored_push 32 (take n pairs) s a b f new)
+    pub pushed_stored : Stored 32 qs
+    pushed_stored = subst (Stored 32) (sym pushed) (stored_push 32 ps s a b f new)
 
-  pub push_put : closure (take (n + 1) (set pairs n (a, b))) ≡ put (closure (take n pairs)) a b
-  push_put = ap closure push_is ∙ closure_push (take n pairs) (a, b)
+    pub pushed_put : closure qs ≡ put (closure ps) a b
+    pushed_put = ap closure pushed ∙ closure_push ps (a, b)

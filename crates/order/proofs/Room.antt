@@ -2,7 +2,7 @@
 use Rattle.std.proofs.Common.{◌≡◌, ℕ, zero, suc, ◌+◌, ◌<◌, ◌≤◌, true, false, cond, ltb, ◌⊎◌, List, length, get_or, take, sym, refl, ap, ◌∙◌, subst, inl, inr, arith}
 use Rattle.std.proofs.lemmas.List.{get_or-take, length-take-le}
 use Rattle.std.proofs.lemmas.Bool.{cases_order, cond-true, cond-false, lt-ltb, le-ltb, both_ways}
-use Rattle.order.specs.Stored.{closure, Small, Stored}
+use Rattle.order.specs.Stored.{closure, Stored}
 use Rattle.order.specs.Lists.{closure_at}
 use Rattle.order.proofs.Pigeons.{pigeons}
 
@@ -114,12 +114,7 @@ module _ (ps : List (ℕ × ℕ)) (s : Stored 32 ps) where
       pigeons 496 (length ps) (λ j. code (left j) (right j)) low
       (λ i j l h e. clash i j l h (code_same (left i) (right i) (left j) (right j) (differ i (omega arith)) (differ j h) e))
 
--- what a keeper's fields give
-module _ (pairs : List (ℕ × ℕ)) (n : ℕ) (long : length pairs ≡ 496) (room : n ≤ 496) (s : Stored 32 (take n pairs)) where
-  pub stored_length : length (take n pairs) ≡ n
-  stored_length = length-take-le n pairs (omega arith)
-
-  pub stored_small : Small pairs n
-  stored_small j h =
-      subst (λ (p : ℕ × ℕ). (p.0 < 32) × (p.1 < 32)) (get_or-take n pairs j (0, 0) h)
-      (s.order.within _ _ (closure_at (take n pairs) j (subst (λ (k : ℕ). j < k) (sym stored_length) h)))
+  -- both numbers of a pair are steps
+  pub stored_small : (j : ℕ) → j < length ps → ((get_or ps j (0, 0)).0 < 32) × ((get_or ps j (0, 0)).1 < 32)
+  unfolding left right
+  stored_small j h = s.order.within (left j) (right j) (here j h)

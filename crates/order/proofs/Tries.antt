@@ -2,7 +2,7 @@
 use Rattle.std.proofs.Common.{◌≡◌, ℕ, ◌+◌, ◌<◌, Bool, true, false, cond, not, ◌&&◌, ◌||◌, eqb, List, [], ◌∷◌, length, get_or, drop, is_ok, is_err, Some, None, Ok, Err, Result, sym, refl, ap, ◌∙◌, subst, arith}
 use mathlib.Core.Bool.{beq}
 use Rattle.std.proofs.lemmas.List.{at_drop_more}
-use Rattle.std.proofs.lemmas.Bool.{cond-false, cond-true, false≢true}
+use Rattle.std.proofs.lemmas.Bool.{cond-false, false≢true}
 use Rattle.std.proofs.lemmas.Bool.Decides.{nat_tests}
 use Rattle.order.specs.declared.keeper.Refused.{Refused}
 use Rattle.order.specs.Operations.{answered, LowPut, LowPuts, same_answers}
@@ -39,9 +39,6 @@ all_tries n R S ok ps e l = ap (λ (q : Bool × Relation). cond q.0 (Some q.1) N
 module _ (n : ℕ) (R S : Relation) (ps : List (ℕ × ℕ)) (i : ℕ) (l : i < length ps) (whole : Bool × Relation) (inv : put_each n R (drop i ps) ≡ whole) where
   opened : cond (can_put n R (get_or ps i (0, 0)).0 (get_or ps i (0, 0)).1) (put_each n (put R (get_or ps i (0, 0)).0 (get_or ps i (0, 0)).1) (drop (i + 1) ps)) (false, R) ≡ whole
   opened = sym (at_drop_more (put_each n R) ps i (0, 0) l) ∙ inv
-
-  pub put_turn : true ≡ can_put n R (get_or ps i (0, 0)).0 (get_or ps i (0, 0)).1 → S ≡ put R (get_or ps i (0, 0)).0 (get_or ps i (0, 0)).1 → put_each n S (drop (i + 1) ps) ≡ whole
-  put_turn t e = ap (λ (Q : Relation). put_each n Q (drop (i + 1) ps)) e ∙ sym (cond-true (can_put n R (get_or ps i (0, 0)).0 (get_or ps i (0, 0)).1) _ _ (sym t)) ∙ opened
 
   pub put_stop : (ok : Bool) → ok ≡ false → false ≡ can_put n R (get_or ps i (0, 0)).0 (get_or ps i (0, 0)).1 → S ≡ R → (ok, S) ≡ whole
   put_stop ok f t e =
@@ -87,9 +84,6 @@ module _ (n m : ℕ) (R S : Relation) (os : List Operation) (i : ℕ) (l : i < l
       ap (λ (q : Bool × Relation). beq q.0 c && same_answers n m q.1 S' (drop (i + 1) os)) one
       ∙ ap (λ (q : Bool × Relation). beq (answered n R (get_or os i (Put 0 0))).0 q.0 && same_answers n m (answered n R (get_or os i (Put 0 0))).1 q.1 (drop (i + 1) os)) other
       ∙ sym (at_drop_more (same_answers n m R S) os i (Put 0 0) l) ∙ inv
-
-  pub agree_turn : not (beq b c) ≡ false → same_answers n m R' S' (drop (i + 1) os) ≡ whole
-  agree_turn h = let a = asked in grind arith
 
   pub agree_stop : not (beq b c) ≡ true → false ≡ whole
   agree_stop h = let a = asked in grind arith

@@ -18,10 +18,6 @@ pub record Stored (n : ℕ) (ps : List (ℕ × ℕ)) : Type 0 where
   pub order : Order n (closure ps)
   pub fresh : (j : ℕ) → j < length ps → closure (take j ps) (slice_index_or ps j (0, 0)).0 (slice_index_or ps j (0, 0)).1 ≡ false
 
--- each of the first n pairs has two numbers below 32
-abbrev pub Small : List (ℕ × ℕ) → ℕ → Type 0
-Small ps n = (j : ℕ) → j < n → ((slice_index_or ps j (0, 0)).0 < 32) × ((slice_index_or ps j (0, 0)).1 < 32)
-
 -- a pair put where it is not refused
 abbrev pub put_or_not : ℕ → Relation → ℕ → ℕ → Relation
 put_or_not n R a b = cond (can_put n R a b) (put R a b) R

@@ -18,7 +18,7 @@ pub enum Operation {
 /// Does the operation. The answer to a put is whether it was not refused, to a question whether the step is before, and to a
 /// drop yes.
 pub fn apply<K: Keeper>(keeper: &mut K, operation: Operation) -> bool
-    ensures { (result, K.before keeper.new) ≡ answered K.capacity (K.before keeper.old) operation }
+    ensures { (result, K.before keeper.new) ≡ answered K.CAPACITY (K.before keeper.old) operation }
 {
     match operation {
         Operation::Put(a, b) => keeper.put(a, b).is_ok(),
@@ -33,9 +33,9 @@ pub fn apply<K: Keeper>(keeper: &mut K, operation: Operation) -> bool
 /// Does the operations on two keepers, until they answer one differently, and says whether they answered all alike. Two
 /// keepers of one order do, if their capacities are equal or all numbers that are put are below both.
 pub fn agree<K: Keeper, L: Keeper>(one: &mut K, other: &mut L, operations: &[Operation]) -> bool
-    ensures is { result ≡ same_answers K.capacity L.capacity (K.before one.old) (L.before other.old) operations.now }
-    ensures equal { K.capacity ≡ L.capacity → K.before one.old ≡ L.before other.old → result ≡ true }
-    ensures below { LowPuts K.capacity operations.now → LowPuts L.capacity operations.now → K.before one.old ≡ L.before other.old → result ≡ true }
+    ensures is { result ≡ same_answers K.CAPACITY L.CAPACITY (K.before one.old) (L.before other.old) operations.now }
+    ensures equal { K.CAPACITY ≡ L.CAPACITY → K.before one.old ≡ L.before other.old → result ≡ true }
+    ensures below { LowPuts K.CAPACITY operations.now → LowPuts L.CAPACITY operations.now → K.before one.old ≡ L.before other.old → result ≡ true }
 {
     for operation in operations {
         if apply(one, *operation) != apply(other, *operation) {

@@ -10,8 +10,8 @@ use crate::keeper::{Keeper, Refused};
 /// Where all numbers are below the capacity, the order at the end is the smallest that holds the old one and all the pairs, and
 /// a pair is refused exactly where that would put a step before itself.
 pub fn put_all<K: Keeper>(keeper: &mut K, pairs: &[(u8, u8)]) -> Result<(), Refused>
-    ensures puts { (is_ok result, K.before keeper.new) ≡ put_each K.capacity (K.before keeper.old) pairs.now }
-    ensures closes { Low K.capacity pairs.now → (if is_ok result then Some (K.before keeper.new) else None) ≡ try_all (Some (K.before keeper.old)) pairs.now }
+    ensures puts { (is_ok result, K.before keeper.new) ≡ put_each K.CAPACITY (K.before keeper.old) pairs.now }
+    ensures closes { Low K.CAPACITY pairs.now → (if is_ok result then Some (K.before keeper.new) else None) ≡ try_all (Some (K.before keeper.old)) pairs.now }
 {
     for pair in pairs {
         let (a, b) = *pair;

@@ -35,25 +35,14 @@ mod tests {
 
     // Whether two keepers give the same answer to every question below 32.
     fn same_order<K: Keeper, L: Keeper>(one: &K, other: &L) -> bool {
-        for place in 0..1024u16 {
-            let a = (place / 32) as u8;
-            let b = (place % 32) as u8;
-            if one.before(a, b) != other.before(a, b) {
-                return false;
-            }
-        }
-        true
+        (0..32u8).all(|a| (0..32u8).all(|b| one.before(a, b) == other.before(a, b)))
     }
 
     // How many of the pairs below 32 are in the order.
-    fn size<K: Keeper>(keeper: &K) -> u16 {
-        let mut pairs = 0u16;
-        for place in 0..1024u16 {
-            if keeper.before((place / 32) as u8, (place % 32) as u8) {
-                pairs = pairs.wrapping_add(1);
-            }
-        }
-        pairs
+    fn size<K: Keeper>(keeper: &K) -> usize {
+        (0..1024u16)
+            .filter(|place| keeper.before((place / 32 % 32) as u8, (place % 32) as u8))
+            .count()
     }
 
     fn replay(rt: &impl Abort, first: u32) {
@@ -105,8 +94,8 @@ mod tests {
 
     fn chain_of<K: Keeper>(rt: &impl Abort) -> Result<(), Fail> {
         let mut keeper = K::new();
-        for x in 0..31u8 {
-            keeper.put(30 - x, 31 - x)?;
+        for x in (0..31u8).rev() {
+            keeper.put(x, x + 1)?;
         }
         assert!(rt; keeper.before(0, 31));
         assert!(rt; !keeper.before(31, 0));
@@ -146,9 +135,29 @@ mod tests {
         circle_at::<PairList>(&rt)
     }
 
+    fn row_at<K: Keeper>(rt: &impl Abort) -> Result<(), Fail> {
+        let mut keeper = K::new();
+        keeper.put(2, 5)?;
+        keeper.put(5, 7)?;
+        let mut row = K::new();
+        row.put_row(&keeper, 2);
+        assert!(rt; row.before(2, 5));
+        assert!(rt; row.before(2, 7));
+        assert!(rt; !row.before(5, 7));
+        row.put_row(&keeper, 5);
+        assert!(rt; same_order(&row, &keeper));
+        Ok(())
+    }
+
+    #[test]
+    fn rows_are_copied(rt: HostRuntime) -> Result<(), Fail> {
+        row_at::<BitTable>(&rt)?;
+        row_at::<PairList>(&rt)
+    }
+
     fn past<K: Keeper>(rt: &impl Abort) -> Result<(), Fail> {
         let mut keeper = K::new();
-        let over = K::steps();
+        let over = K::CAPACITY;
         assert_eq!(rt; keeper.put(over, 0), Err(Refused));
         assert_eq!(rt; keeper.put(0, over), Err(Refused));
         assert_eq!(rt; keeper.put(255, 254), Err(Refused));

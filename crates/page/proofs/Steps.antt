@@ -1,8 +1,8 @@
 -- From one line of a text to the next: for those who go through a text with `line_at`.
-use Rattle.std.proofs.Common.{◌≡◌, ℕ, suc, ◌+◌, List, [], ◌∷◌, map, length, drop, Some, None, sym, refl, ap, ◌∙◌, subst, arith}
+use Rattle.std.proofs.Common.{◌≡◌, ℕ, suc, ◌+◌, ◌≤◌, Bool, true, false, cond, ◌&&◌, eqb, List, [], ◌∷◌, map, length, drop, Some, None, sym, refl, ap, ◌∙◌, subst, arith}
 use Rattle.std.proofs.lemmas.List.{drop-drop}
 use Rattle.page.proofs.Breaking.{Kept, of_lines}
-use Rattle.page.specs.Lines.{Broken, broken, lines, first_line}
+use Rattle.page.specs.Lines.{Broken, broken, cr_first, lines, first_line, on_first, starts_lf}
 
 -- what stands after the first line and its break has the other lines
 abbrev Stepped : List ℕ → List Broken → Type 0
@@ -54,3 +54,23 @@ lines_step text at line next h =
 pub none_of : (ps : List Broken) (at : ℕ) → None ≡ first_line at ps → ps ≡ []
 none_of [] at h = refl
 none_of ((l, e) ∷ ps) at h = let z : ◌≡◌ {A = ℕ} 0 1 = cc in absurd (omega arith)
+
+-- ---- how many lines there are
+
+length_on_first : (b : ℕ) (ps : List Broken) → length (on_first b ps) ≤ suc (length ps)
+length_on_first b [] = omega arith
+length_on_first b ((l, e) ∷ ps) = omega arith
+
+length_cr_first : (ps : List Broken) → length (cr_first ps) ≤ length ps
+length_cr_first [] = omega arith
+length_cr_first ((l, e) ∷ ps) = omega arith
+
+-- a text has no more lines than bytes
+pub few_lines : (text : List ℕ) → length (broken text) ≤ length text
+few_lines [] = omega arith
+few_lines (b ∷ bs) = at (eqb b 10) (eqb b 13 && starts_lf bs) (few_lines bs)
+  where
+    at : (lf crlf : Bool) → length (broken bs) ≤ length bs → length (cond lf (([], 10 ∷ []) ∷ broken bs) (cond crlf (cr_first (broken bs)) (on_first b (broken bs)))) ≤ suc (length bs)
+    at true crlf ih = omega arith
+    at false true ih = let h = length_cr_first (broken bs) in omega arith
+    at false false ih = let h = length_on_first b (broken bs) in omega arith

@@ -148,6 +148,8 @@ impl Row {
     }
 }
 
+// Page and place stay two parameters: the terminal in C lends a page, and how much of it is written is part of what it is answered.
+
 /// Writes a text, and answers the place after it.
 fn put(page: &mut [u8], at: usize, text: &[u8]) -> usize
     requires { at + length text.now ≤ length page.old }

@@ -23,8 +23,9 @@ use page::{Answer, Refusal};
 use semantics::Link;
 
 /// Lets a link join two steps. Where both are primitive, the first is before the second from then on.
+// The method's function of this name is over a table; the order of a method lies in no keeper.
 fn arrange<K: Keeper>(keeper: &mut K, p: u8, q: u8, ordered: bool) -> Result<(), Refused>
-    ensures answer { p < K.capacity → q < K.capacity → is_ok result ≡ not (p == q || (ordered && K.before keeper.old q p)) }
+    ensures answer { p < K.CAPACITY → q < K.CAPACITY → is_ok result ≡ not (p == q || (ordered && K.before keeper.old q p)) }
     ensures after { K.before keeper.new ≡ (if is_ok result && ordered then put (K.before keeper.old) p q else K.before keeper.old) }
 {
     if ordered {
@@ -69,14 +70,14 @@ impl Plan {
 
     /// Enters a link whose ends name one fact, unless the list is full or the order has no room for it.
     fn tie<K: Keeper>(&mut self, keeper: &mut K, l: Link, ordered: bool) -> Answer
-        ensures answer { l.producer < K.capacity → l.consumer < K.capacity → row result ≡ first_of (room_causes (items self.old.links) (K.before keeper.old) 256 l ordered) 0 }
+        ensures answer { l.producer < K.CAPACITY → l.consumer < K.CAPACITY → row result ≡ first_of (room_causes (items self.old.links) (K.before keeper.old) 256 l ordered) 0 }
         ensures after { plan (K.before keeper.new) self.new ≡ told (row result) (linked_in (plan (K.before keeper.old) self.old) l ordered) (plan (K.before keeper.old) self.old) }
     {
         if !has_room(&self.links, l) {
             return Err(Refusal::LimitPassed);
         }
-        arrange(keeper, l.producer, l.consumer, ordered).map_err(|_| Refusal::Circle)?;
-        join(&mut self.links, l)?;
+        arrange(keeper, l.producer, l.consumer, ordered)?;
+        join(&mut self.links, l);
         Ok(0)
     }
 
@@ -84,7 +85,7 @@ impl Plan {
     /// then on. A link that stands already is accepted again, also on a full list. The plan has no more step numbers than the
     /// keeper.
     pub fn put_link<K: Keeper>(&mut self, keeper: &mut K, known: &Tasks, link: Link) -> Answer
-        ensures answer { length (given_steps self.old.steps) ≤ K.capacity → row result ≡ first_of (link_causes (tasks known.now) (given_steps self.old.steps) (items self.old.links) (K.before keeper.old) 256 link) 0 }
+        ensures answer { length (given_steps self.old.steps) ≤ K.CAPACITY → row result ≡ first_of (link_causes (tasks known.now) (given_steps self.old.steps) (items self.old.links) (K.before keeper.old) 256 link) 0 }
         ensures after { plan (K.before keeper.new) self.new ≡ told (row result) (plan_link (tasks known.now) (plan (K.before keeper.old) self.old) link) (plan (K.before keeper.old) self.old) }
     {
         self.check_ends(known, link)?;

@@ -16,7 +16,7 @@ use page::{Answer, Refusal};
 
 /// Puts step `s` after init and before goal, where neither pair is refused.
 fn put_between<K: Keeper>(keeper: &mut K, s: u8)
-    ensures { can_put K.capacity (K.before keeper.old) 0 s ≡ true → can_put K.capacity (put (K.before keeper.old) 0 s) s 1 ≡ true → K.before keeper.new ≡ put (put (K.before keeper.old) 0 s) s 1 }
+    ensures { can_put K.CAPACITY (K.before keeper.old) 0 s ≡ true → can_put K.CAPACITY (put (K.before keeper.old) 0 s) s 1 ≡ true → K.before keeper.new ≡ put (put (K.before keeper.old) 0 s) s 1 }
 {
     let _ = keeper.put(0, s);
     let _ = keeper.put(s, 1);
@@ -25,8 +25,8 @@ fn put_between<K: Keeper>(keeper: &mut K, s: u8)
 impl Plan {
     /// S: a new step of a task, after init and before goal. Its number is the answer. The keeper suits the plan.
     pub fn new_step<K: Keeper>(&mut self, keeper: &mut K, known: &Tasks, task: u8) -> Answer
-        ensures answer { row result ≡ first_of (step_causes (tasks known.now) (length (given_steps self.old.steps)) K.capacity task) (length (given_steps self.old.steps)) }
-        ensures after { Suits K.capacity (plan (K.before keeper.old) self.old) → plan (K.before keeper.new) self.new ≡ told (row result) (plan_step (plan (K.before keeper.old) self.old) task) (plan (K.before keeper.old) self.old) }
+        ensures answer { row result ≡ first_of (step_causes (tasks known.now) (length (given_steps self.old.steps)) K.CAPACITY task) (length (given_steps self.old.steps)) }
+        ensures after { Suits K.CAPACITY (plan (K.before keeper.old) self.old) → plan (K.before keeper.new) self.new ≡ told (row result) (plan_step (plan (K.before keeper.old) self.old) task) (plan (K.before keeper.old) self.old) }
     {
         if !known.has(task) {
             return Err(Refusal::NoSuchName { field: 1 });
@@ -35,7 +35,7 @@ impl Plan {
             return Err(Refusal::WrongKind);
         }
         let number = self.given();
-        if number >= K::steps() {
+        if number >= K::CAPACITY {
             return Err(Refusal::LimitPassed);
         }
         put_between(keeper, number);
@@ -45,7 +45,7 @@ impl Plan {
 
     /// O: one step before another, with all that follows. The plan has no more step numbers than the keeper.
     pub fn put_order<K: Keeper>(&self, keeper: &mut K, earlier: u8, later: u8) -> Answer
-        ensures answer { length (given_steps self.now.steps) ≤ K.capacity → row result ≡ first_of (order_causes (given_steps self.now.steps) (K.before keeper.old) earlier later) 0 }
+        ensures answer { length (given_steps self.now.steps) ≤ K.CAPACITY → row result ≡ first_of (order_causes (given_steps self.now.steps) (K.before keeper.old) earlier later) 0 }
         ensures after { K.before keeper.new ≡ told (row result) (put (K.before keeper.old) earlier later) (K.before keeper.old) }
     {
         if !self.is_step(earlier) {
@@ -54,7 +54,7 @@ impl Plan {
         if !self.is_step(later) {
             return Err(Refusal::NoSuchName { field: 2 });
         }
-        keeper.put(earlier, later).map_err(|_| Refusal::Circle)?;
+        keeper.put(earlier, later)?;
         Ok(0)
     }
 }

@@ -3,6 +3,7 @@ ghost use Rattle.std.specs.Prelude.{◌≡◌, ℕ, ◌<◌, ◌≤◌, true, []
 ghost use Rattle.std.specs.List.{slice_get};
 ghost use Rattle.std.specs.Option.{option_map};
 ghost use Rattle.domain.specs.Meaning.{task, tasks};
+ghost use Rattle.fixed.specs.Items.{items};
 ghost use Rattle.plan.specs.Meaning.{given_steps, present};
 ghost use Rattle.semantics.specs.OpenLines.{is_step};
 ghost use Rattle.semantics.specs.Plans.{at_task, both_primitive, present_from, primitive_at};
@@ -15,6 +16,15 @@ use semantics::Link;
 #[derive(Clone, Copy)]
 pub struct Steps {
     pub(super) list: Fixed<Option<u8>, 64>,
+}
+
+/// The steps that a list names.
+impl From<Fixed<Option<u8>, 64>> for Steps {
+    ghost from_gives = { λ list steps. given_steps steps ≡ items list };
+
+    fn from(list: Fixed<Option<u8>, 64>) -> Steps {
+        Steps { list }
+    }
 }
 
 impl Steps {

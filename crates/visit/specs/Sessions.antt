@@ -3,22 +3,21 @@ use Rattle.std.specs.Prelude.{ℕ, Bool, true, false, cond, List, [], ◌∷◌,
 use Rattle.std.specs.Option.{option_map}
 use Rattle.line.specs.Parse.{parsed}
 use Rattle.line.specs.declared.command.Command.{Command}
-use Rattle.line.specs.declared.command.Refusal.{Refusal}
-use Rattle.page.specs.Answers.{row, unread}
-use Rattle.page.specs.declared.answer.Answer.{Answer}
+use Rattle.line.specs.declared.command.Refusal as unreadable
+use Rattle.page.specs.Answers.{refusal_row, row, unread}
+use Rattle.page.specs.declared.answer.Refusal.{Refusal}
 use Rattle.page.specs.declared.answer.Row.{Row}
 use Rattle.semantics.specs.Causes.{told}
 use Rattle.semantics.specs.Rules.{verdict}
 use Rattle.semantics.specs.States.{next, opening_plan, State}
 use Rattle.semantics.specs.declared.phase.Phase.{Phase}
 use Rattle.semantics.specs.declared.phase.Phase.TheVariants.{Initial, MethodOpen, Methods, Refine, Running, Tasks}
-use Rattle.told_domain.specs.Domains.{Parts}
-use Rattle.visit.specs.declared.session.Reply.{Reply}
-use Rattle.visit.specs.declared.session.Reply.TheVariants.{Later, Told, Unread}
+use Rattle.told_domain.specs.Domains.{Parts, state_with}
+use Rattle.visit.specs.declared.session.Told.{Told}
 
 -- a checker with this domain, of whose plan nothing is told; and the domain of a checker
 abbrev pub state : Parts → State
-state d = record { phase = d.phase; tasks = d.tasks; methods = d.methods; draft = d.draft; plan = opening_plan; taken = [] }
+state d = state_with d opening_plan []
 
 abbrev pub domain_of : State → Parts
 domain_of st = record { phase = st.phase; tasks = st.tasks; methods = st.methods; draft = st.draft }
@@ -42,11 +41,11 @@ abbrev pub command_after : Parts → Command → Parts
 command_after d c = cond (before_plan d.phase) (told (verdict 64 (state d) c) (domain_of (next (state d) c)) d) d
 
 -- the row of a line: the refusal of its reading, or the row of its command; a line that is no command leaves all as it was
-abbrev pub line_row : Parts → Result Command Refusal → Option Row
+abbrev pub line_row : Parts → Result Command unreadable.Refusal → Option Row
 line_row d (Ok c) = command_row d c
-line_row d (Err e) = Some (row (unread e))
+line_row d (Err e) = Some (refusal_row (unread e))
 
-abbrev pub line_after : Parts → Result Command Refusal → Parts
+abbrev pub line_after : Parts → Result Command unreadable.Refusal → Parts
 line_after d (Ok c) = command_after d c
 line_after d (Err e) = d
 
@@ -56,16 +55,14 @@ lines_after d [] = d
 lines_after d (l ∷ ls) = lines_after (line_after d (parsed l)) ls
 
 -- the row of an answer that may be none
-abbrev pub answer_row : Option Answer → Option Row
+abbrev pub answer_row : Option (Result ℕ Refusal) → Option Row
 answer_row o = option_map row o
 
 -- the row that a reply tells, and what the line was read as
-abbrev pub reply_row : Reply → Option Row
-reply_row (Unread e) = Some (row (unread e))
-reply_row (Told c a ph) = Some (row a)
-reply_row (Later c) = None
+abbrev pub reply_row : Result Told unreadable.Refusal → Option Row
+reply_row (Ok t) = answer_row t.answer
+reply_row (Err e) = Some (refusal_row (unread e))
 
-abbrev pub read : Reply → Result Command Refusal
-read (Unread e) = Err e
-read (Told c a ph) = Ok c
-read (Later c) = Ok c
+abbrev pub read : Result Told unreadable.Refusal → Result Command unreadable.Refusal
+read (Ok t) = Ok t.command
+read (Err e) = Err e

@@ -11,7 +11,7 @@ mod session;
 mod telling;
 mod words;
 
-use page::line_at;
+use page::Lines;
 use session::Session;
 use std::io;
 use std::io::Read;
@@ -41,17 +41,13 @@ fn is_too_long(text: &[u8]) -> bool
 fn tell_all(rt: &HostRuntime, session: &mut Session, text: &[u8]) -> io::Result<()>
     ensures { OnOk result (parts session.new.domain ≡ lines_after (parts session.old.domain) (lines text.now)) }
 {
-    let mut number = 0;
-    let mut at = 0;
-    while let Some(line) = line_at(text, at) {
-        number += 1;
-        let reply = session.tell(line.text);
+    for (index, line) in Lines::new(text).enumerate() {
+        let reply = session.tell(line);
         rt.println(Report {
-            number,
-            line: line.text,
+            number: index + 1,
+            line,
             reply,
         })?;
-        at = line.next;
     }
     Ok(())
 }

@@ -9,21 +9,13 @@ pub struct Session {
     pub(super) domain: Domain,
 }
 
-/// What becomes of a line.
+/// What becomes of a command: its answer, unless it is about the plan, and the phase after it.
 #[derive(Clone, Copy)]
-pub enum Reply {
-    /// The line is no command.
-    Unread {
-        refusal: Refusal,
-    },
-    /// The line is a command, this is its answer, and this is the phase after it.
-    Told {
-        command: Command,
-        answer: Answer,
-        phase: Phase,
-    },
-    /// The line is a command about the plan, and is not carried out yet.
-    Later {
-        command: Command,
-    },
+pub struct Told {
+    pub command: Command,
+    pub answer: Option<Answer>,
+    pub phase: Phase,
 }
+
+/// What becomes of a line, or why it is no command.
+pub type Reply = Result<Told, Refusal>;

@@ -1,12 +1,10 @@
 //! What became of a line, in words.
-use crate::session::Reply;
+use crate::session::{Reply, Told};
+use crate::telling::answer_of;
 use line::Command;
-use page::{Answer, Row, Side, line_at};
+use page::{Refusal, Row, Side};
 use semantics::Phase;
 use std::fmt;
-
-/// Every row fits in a page of this many bytes.
-const ROW_BYTES: usize = 28;
 
 /// The bytes of a line as they are printed: printable ASCII as it stands, a backslash doubled, any other byte as `\x`
 /// and two digits.
@@ -23,6 +21,7 @@ impl fmt::Display for Shown<'_> {
 }
 
 /// One byte, as it is printed.
+// By hand: std has no escape that leaves quotation marks as they are.
 fn show_byte<W: fmt::Write>(b: u8, f: &mut fmt::Formatter<W>) -> fmt::Result {
     match b {
         b'\\' => write!(f, "\\\\"),
@@ -47,8 +46,11 @@ impl fmt::Display for Report<'_> {
         let number = self.number;
         let line = Shown(self.line);
         write!(f, "Line {number}: {line} | ")?;
-        match self.reply.answer() {
-            Some(answer) => write_row(answer, f)?,
+        match answer_of(self.reply) {
+            Some(answer) => {
+                let row = Row::from(answer);
+                write!(f, "{row}")?;
+            }
             None => write!(f, "no row")?,
         }
         write!(f, " | ")?;
@@ -56,32 +58,21 @@ impl fmt::Display for Report<'_> {
     }
 }
 
-/// The row as a page has it, without its break.
-fn write_row<W: fmt::Write>(answer: Answer, f: &mut fmt::Formatter<W>) -> fmt::Result {
-    let mut page = [0; ROW_BYTES];
-    let _ = answer.write(&mut page, 0);
-    match line_at(&page, 0) {
-        Some(row) => {
-            let text = Shown(row.text);
-            write!(f, "{text}")
-        }
-        None => Ok(()),
-    }
-}
-
 /// What happened, as one sentence.
 fn sentence<W: fmt::Write>(reply: Reply, f: &mut fmt::Formatter<W>) -> fmt::Result {
     match reply {
-        Reply::Unread { refusal } => unread(Answer::from(refusal), f),
-        Reply::Told {
-            command,
-            answer,
-            phase,
-        } => match answer {
-            Answer::Accepted { number } => accepted(command, number, phase, f),
-            _ => refused(command, answer, f),
+        Err(refusal) => unread(Refusal::from(refusal), f),
+        Ok(
+            Told {
+                command,
+                answer,
+                phase,
+            },
+        ) => match answer {
+            Some(Ok(number)) => accepted(command, number, phase, f),
+            Some(Err(refusal)) => refused(command, refusal, f),
+            None => write!(f, "Not carried out: this version stops before the plan."),
         },
-        Reply::Later { .. } => write!(f, "Not carried out: this version stops before the plan."),
     }
 }
 
@@ -153,20 +144,20 @@ fn method_accepted<W: fmt::Write>(
 }
 
 /// Why a line is no command.
-fn unread<W: fmt::Write>(answer: Answer, f: &mut fmt::Formatter<W>) -> fmt::Result {
-    let Row { code, .. } = answer.row();
+fn unread<W: fmt::Write>(refusal: Refusal, f: &mut fmt::Formatter<W>) -> fmt::Result {
+    let Row { code, .. } = Row::from(refusal);
     write!(f, "Refused, number {code}: ")?;
-    match answer {
-        Answer::BadByte { place } => write!(
+    match refusal {
+        Refusal::BadByte { place } => write!(
             f,
             "the byte at place {place} may not stand in a line."
         ),
-        Answer::NoLetter => write!(f, "the first field is not the letter of a command."),
-        Answer::FieldCount { count } => write!(
+        Refusal::NoLetter => write!(f, "the first field is not the letter of a command."),
+        Refusal::FieldCount { count } => write!(
             f,
             "the letter takes another count of fields than {count}."
         ),
-        Answer::NoNumber { field } => write!(
+        Refusal::NoNumber { field } => write!(
             f,
             "field {field} is no number from 0 to 255 without leading zeros."
         ),
@@ -177,20 +168,20 @@ fn unread<W: fmt::Write>(answer: Answer, f: &mut fmt::Formatter<W>) -> fmt::Resu
 /// Why a command is refused.
 fn refused<W: fmt::Write>(
     command: Command,
-    answer: Answer,
+    refusal: Refusal,
     f: &mut fmt::Formatter<W>,
 ) -> fmt::Result {
-    let Row { code, .. } = answer.row();
+    let Row { code, .. } = Row::from(refusal);
     write!(f, "Refused, number {code}: ")?;
-    match answer {
-        Answer::WrongPhase => wrong_phase(command, f),
-        Answer::NoSuchName { field } => nameless(command, field, f),
-        Answer::WrongKind => wrong_kind(command, f),
-        Answer::AlreadyGiven => write!(f, "this entry is given already."),
-        Answer::FactsDiffer => write!(f, "the two ends name different facts."),
-        Answer::LimitPassed => limit_passed(command, f),
-        Answer::Circle => write!(f, "a step would come before itself."),
-        Answer::EntryMissing { side, label } => missing(side, label, f),
+    match refusal {
+        Refusal::WrongPhase => wrong_phase(command, f),
+        Refusal::NoSuchName { field } => nameless(command, field, f),
+        Refusal::WrongKind => wrong_kind(command, f),
+        Refusal::AlreadyGiven => write!(f, "this entry is given already."),
+        Refusal::FactsDiffer => write!(f, "the two ends name different facts."),
+        Refusal::LimitPassed => limit_passed(command, f),
+        Refusal::Circle => write!(f, "a step would come before itself."),
+        Refusal::EntryMissing { side, label } => missing(side, label, f),
         _ => write!(f, "the rules forbid it."),
     }
 }

@@ -3,27 +3,10 @@ use Rattle.std.proofs.Common.{◌≡◌, ℕ, suc, ◌+◌, ◌-◌, ◌*◌, �
 use Rattle.std.proofs.lemmas.List.{take_all, take-append-le}
 use Rattle.page.specs.Lines.{broken, Broken, cr_first, lines, on_first, starts_lf}
 use Rattle.page.specs.Rows.{row_text}
+use Rattle.page.proofs.Steps.{few_lines}
 use Rattle.semantics.specs.Promise.{answered, History}
 use Rattle.checker.specs.Meaning.{Held}
 use Rattle.checker.specs.Runs.{rows_text, Runs, texts, told_lines, told_within}
-
-length_on_first : (b : ℕ) (ps : List Broken) → length (on_first b ps) ≤ suc (length ps)
-length_on_first b [] = omega arith
-length_on_first b ((l, e) ∷ ps) = omega arith
-
-length_cr_first : (ps : List Broken) → length (cr_first ps) ≤ length ps
-length_cr_first [] = omega arith
-length_cr_first ((l, e) ∷ ps) = omega arith
-
--- a text has no more lines than bytes
-few_lines : (text : List ℕ) → length (broken text) ≤ length text
-few_lines [] = omega arith
-few_lines (b ∷ bs) = at (eqb b 10) (eqb b 13 && starts_lf bs) (few_lines bs)
-  where
-    at : (lf crlf : Bool) → length (broken bs) ≤ length bs → length (cond lf (([], 10 ∷ []) ∷ broken bs) (cond crlf (cr_first (broken bs)) (on_first b (broken bs)))) ≤ suc (length bs)
-    at true crlf ih = omega arith
-    at false true ih = let h = length_cr_first (broken bs) in omega arith
-    at false false ih = let h = length_on_first b (broken bs) in omega arith
 
 module _ (capacity : ℕ) where
   -- the lines told are the first ones, so as many as there are, are all

@@ -1,6 +1,9 @@
-use Rattle.std.proofs.Common.{refl, arith}
-use Rattle.masks.proofs.Bits.{lowest_set}
+use Rattle.std.proofs.Common.{ℕ, eqb, refl, ap, arith}
+use mir.Syntax.{w64}
+use Rattle.std.proofs.lemmas.Nat.Bits.{bit_at-trailing_zeros}
+use Rattle.masks.specs.Bits.{bit}
 use Rattle.masks.proofs.lowest.Goals as goal
 
 pub returns : goal.returns
-returns c = let s = lowest_set 64 c.args.mask c.requires (omega arith) in record { is = refl; low = s.0; has = s.1 }
+unfolding bit
+returns c = let t = bit_at-trailing_zeros w64 c.args.mask c.requires (omega arith) in record { is = refl; low = t.0; has = ap (λ (k : ℕ). eqb k 1) t.1 }

@@ -1,20 +1,23 @@
-use Rattle.std.proofs.Common.{◌≡◌, drop, sym, ap, ◌∙◌, arith}
-use Rattle.line.specs.Parse.{parsed}
-use Rattle.page.specs.Lines.{lines}
-use Rattle.page.proofs.Steps.{lines_step}
-use Rattle.told_domain.specs.Domains.{Parts, parts}
+use Rattle.std.proofs.Common.{◌≡◌, length, inl, ap, arith, rules}
+use Rattle.std.proofs.lemmas.List.{length-map}
+use Rattle.std.specs.Iterator.Adapters.{enumerate_source}
+use Rattle.page.specs.Lines.{Broken, broken, lines}
+use Rattle.page.specs.Reading.{lines_left}
+use Rattle.told_domain.specs.Domains.{parts}
+use Rattle.visit.specs.Sessions.{lines_after}
+use Rattle.page.proofs.Steps.{few_lines}
 use Rattle.visit.proofs.tell_all.Goals as goal
-use Rattle.visit.specs.Sessions.{line_after, lines_after}
 
-pub loop-line-preserved : goal.loop-line-preserved
-loop-line-preserved c =
+pub loop-index-init-derived : goal.loop-index-init-derived
+loop-index-init-derived c =
     let text = c.args.text.now in
-    let line = c.in-Some.line.text.now in
-    let rest = lines (drop c.in-Some.line.next text) in
-    let d = parts c.loop-line.session.domain in
-    let step : lines (drop c.loop-line.at text) ≡ _ = lines_step text c.loop-line.at line c.in-Some.line.next c.in-Some.ensures.line in
-    let left : lines_after d (lines (drop c.loop-line.at text)) ≡ lines_after (line_after d (parsed line)) rest = ap (lines_after d) step in (
-      omega (arith, c.in-Some.ensures.next),
-      omega (arith, c.in-Some.ensures.next),
-      ap (λ (e : Parts). lines_after e rest) c.tell-reply.ensures.after ∙ sym left ∙ c.loop-line.invariant.2,
-    )
+    let few = few_lines text in
+    let long = length-map (broken text) (λ (p : Broken). p.0) in
+    let same = ap length c.new.ensures in
+    ((tt, tt, inl (grind (arith, c.enumerate-index-items.ensures.source, c.enumerate-index-items.ensures.count))), search rules)
+
+pub loop-index-init : goal.loop-index-init
+loop-index-init c =
+    let first = loop-index-init-derived c in
+    let left : lines_left (enumerate_source c.into_iter-index-iterator.result) ≡ lines c.args.text.now = grind (arith, c.new.ensures, c.enumerate-index-items.ensures.source) in
+    (first.0, first.1, ap (lines_after (parts c.args.session.now.domain)) left)

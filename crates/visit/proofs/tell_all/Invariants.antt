@@ -1,16 +1,14 @@
-use Rattle.std.proofs.Common.{◌≡◌, ◌-◌, ◌≤◌, length, drop}
+use Rattle.std.proofs.Common.{◌≡◌}
+use Rattle.std.specs.Iterator.Adapters.{enumerate_source}
 use Rattle.page.specs.Lines.{lines}
+use Rattle.page.specs.Reading.{lines_left}
 use Rattle.told_domain.specs.Domains.{parts}
 use Rattle.visit.proofs.tell_all.Given as goal
 use Rattle.visit.specs.Sessions.{lines_after}
 
--- No more lines than bytes were told, and the lines that are left, told from here, leave what all lines leave.
-abbrev pub invariant-loop-line : goal.invariant-loop-line
-invariant-loop-line l =
-    (l.number ≤ l.at)
-    × (l.at ≤ length l.initial.text)
-    × (lines_after (parts l.session.domain) (lines (drop l.at l.initial.text)) ≡ lines_after (parts l.initial.session.domain) (lines l.initial.text))
-
--- what is left of the text
-abbrev pub decreases-loop-line : goal.decreases-loop-line
-decreases-loop-line l = length l.initial.text - l.at
+-- The lines that are left, told from here, leave what all lines leave.
+abbrev pub invariant-loop-index : goal.invariant-loop-index
+invariant-loop-index l =
+    (goal.iterator-loop-index).can_next l.index-iterator
+    × (goal.iterator-loop-index).is_finite l.index-iterator
+    × (lines_after (parts l.session.domain) (lines_left (enumerate_source l.index-iterator)) ≡ lines_after (parts l.initial.session.domain) (lines l.initial.text))

@@ -10,7 +10,7 @@ use Rattle.decomposing.proofs.decomposing.decompose.Goals as goal
 
 pub returns-in_err-next-clause-answer : goal.returns-in_err-next-clause-answer
 returns-in_err-next-clause-answer g c =
-    let n = g.K.Keeper.capacity in
+    let n = g.K.Keeper.CAPACITY in
     let d = parts c.args.domain.now in
     let p = plan (g.K.Keeper.before c.args.keeper.now) c.args.target.now in
     let m = method c.in_ok-by.by.now in
@@ -24,7 +24,7 @@ returns-in_err-next-clause-answer g c =
 
 pub returns-clause-answer : goal.returns-clause-answer
 returns-clause-answer g c =
-    let n = g.K.Keeper.capacity in
+    let n = g.K.Keeper.CAPACITY in
     let d = parts c.args.domain.now in
     let p = plan (g.K.Keeper.before c.args.keeper.now) c.args.target.now in
     let m = method c.in_ok-by.by.now in

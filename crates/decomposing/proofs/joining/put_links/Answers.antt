@@ -18,4 +18,4 @@ returns g c =
     c.put_each.ensures _ (YieldsList-from_map _ (λ (l : Link). (l.producer, l.consumer))
     (YieldsList-at c.map.ensures.source (YieldsList-from_filter _ (both_primitive ts ss) (YieldsList-from_slice ls cc) c.filter-ordering.ensures.closure (λ x b q k. search (rules, tests))))
     c.map.ensures.closure (λ x r q k. search (rules, tests))).runs
-    ∙ ap (put_each keeper.capacity (keeper.before c.args.next.now)) (linked_pairs ts ss ls)
+    ∙ ap (put_each keeper.CAPACITY (keeper.before c.args.next.now)) (linked_pairs ts ss ls)

@@ -8,10 +8,10 @@ use Rattle.decomposing.proofs.passing.joined.Goals as goal
 pub loop-link-preserved : goal.loop-link-preserved
 loop-link-preserved g c ls y =
     join_more g.I.Iterator.next_gives c.loop-link.link-iterator c.next.new.self (items c.loop-link.list) (with_links [] ls) c.in-Some.link (c.loop-link.invariant ls y) c.in-Some.ensures.steps
-    (items c.join.new.links) c.in_ok-join.ensures.after
+    (items c.try_join.new.links) c.in_ok-try_join.ensures.after
 
-pub returns-in_err-join : goal.returns-in_err-join
-returns-in_err-join g c ls y =
+pub returns-in_err-try_join : goal.returns-in_err-try_join
+returns-in_err-try_join g c ls y =
     let many = join_stop g.I.Iterator.next_gives c.loop-link.link-iterator c.next.new.self (items c.loop-link.list) (with_links [] ls) c.in-Some.link (c.loop-link.invariant ls y) c.in-Some.ensures.steps
     (search rules) in
     search rules

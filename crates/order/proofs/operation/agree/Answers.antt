@@ -1,7 +1,6 @@
-use Rattle.std.proofs.Common.{◌≡◌, false, sym, refl, ◌∙◌}
-use Rattle.std.proofs.lemmas.List.{at_drop_all}
+use Rattle.std.proofs.Common.{◌≡◌, false, ◌∙◌}
 use Rattle.order.specs.Operations.{same_answers}
-use Rattle.order.proofs.Tries.{agree_stop, agree_turn, low_alike, same_capacity}
+use Rattle.order.proofs.Tries.{agree_stop, low_alike, same_capacity}
 use Rattle.order.proofs.operation.agree.Goals as goal
 
 pub returns-then-apply : goal.returns-then-apply
@@ -11,28 +10,12 @@ returns-then-apply g c =
     let R = m.before c.args.one.now in
     let S = n.before c.args.other.now in
     let os = c.args.operations.now in
-    let stop : false ≡ same_answers m.capacity n.capacity R S os =
-    agree_stop m.capacity n.capacity _ _ os c.loop-operation.operation-index c.loop-operation-test.true _ c.loop-operation.invariant
+    let stop : false ≡ same_answers m.CAPACITY n.CAPACITY R S os =
+    agree_stop m.CAPACITY n.CAPACITY (m.before c.loop-operation.one) (n.before c.loop-operation.other) os c.loop-operation.operation-index
+    c.loop-operation-test.true (same_answers m.CAPACITY n.CAPACITY R S os) c.loop-operation.invariant
     _ _ _ _ c.apply.ensures c.apply-in-loop-operation.ensures c.if-apply.true in
     record {
       is = stop;
-      equal = λ e f. stop ∙ same_capacity m.capacity n.capacity R S os e f;
-      below = λ l k f. stop ∙ low_alike m.capacity n.capacity R S os l k f;
-    }
-
-pub loop-operation-preserved : goal.loop-operation-preserved
-loop-operation-preserved g c =
-    agree_turn g.K.Keeper.capacity g.L.Keeper.capacity _ _ c.args.operations.now c.loop-operation.operation-index c.loop-operation-test.true _ c.loop-operation.invariant
-    _ _ _ _ c.apply.ensures c.apply-in-loop-operation.ensures c.if-apply.false
-
-pub returns : goal.returns
-returns g c =
-    let m = g.K.Keeper in
-    let n = g.L.Keeper in
-    let os = c.args.operations.now in
-    record {
-      is = sym (at_drop_all (same_answers m.capacity n.capacity (m.before c.loop-operation.one) (n.before c.loop-operation.other)) os c.loop-operation.operation-index
-          c.loop-operation-test.false) ∙ c.loop-operation.invariant;
-      equal = λ e f. refl;
-      below = λ l k f. refl;
+      equal = λ e f. stop ∙ same_capacity m.CAPACITY n.CAPACITY R S os e f;
+      below = λ l k f. stop ∙ low_alike m.CAPACITY n.CAPACITY R S os l k f;
     }

@@ -1,14 +1,14 @@
 use Rattle.std.proofs.Common.{◌≡◌, Bool, true, is_ok, sym, ◌∙◌}
 use Rattle.std.proofs.lemmas.List.{at_drop_all}
 use Rattle.order.specs.Puts.{put_each}
-use Rattle.order.proofs.Tries.{all_tries, err_not_ok, put_stop, put_turn}
+use Rattle.order.proofs.Tries.{all_tries, err_not_ok, put_stop}
 use Rattle.order.proofs.putting.put_all.Goals as goal
 use Rattle.semantics.specs.Orders.{Relation}
 
 pub returns-in_err-put : goal.returns-in_err-put
 returns-in_err-put g c =
     let m = g.K.Keeper in
-    let n = m.capacity in
+    let n = m.CAPACITY in
     let ps = c.args.pairs.now in
     let R = m.before c.args.keeper.now in
     let S = m.before c.put.new.self in
@@ -19,17 +19,10 @@ returns-in_err-put g c =
     ok (err_not_ok c.from_residual.result c.from_residual.ensures.0) told.test told.after in
     record { puts = stop; closes = λ l. all_tries n R S ok ps stop l }
 
-pub loop-pair-preserved : goal.loop-pair-preserved
-loop-pair-preserved g c =
-    let m = g.K.Keeper in
-    let told = c.in_ok-put.ensures in
-    put_turn m.capacity (m.before c.loop-pair.keeper) (m.before c.put.new.self) c.args.pairs.now c.loop-pair.pair-index c.loop-pair-test.true
-    (put_each m.capacity (m.before c.args.keeper.now) c.args.pairs.now) c.loop-pair.invariant told.test told.after
-
 pub returns : goal.returns
 returns g c =
     let m = g.K.Keeper in
-    let n = m.capacity in
+    let n = m.CAPACITY in
     let ps = c.args.pairs.now in
     let R = m.before c.args.keeper.now in
     let S = m.before c.loop-pair.keeper in

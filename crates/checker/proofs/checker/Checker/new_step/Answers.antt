@@ -12,7 +12,7 @@ use Rattle.checker.specs.Meaning.{held}
 
 pub returns-in-Initial : goal.returns-in-Initial
 returns-in-Initial g c =
-    let n = g.K.Keeper.capacity in
+    let n = g.K.Keeper.CAPACITY in
     let h = held (g.K.Keeper.before c.args.self.now.keeper) c.args.self.now in
     let w = row c.new_step.result in
     let t = c.args.task in
@@ -22,7 +22,7 @@ returns-in-Initial g c =
 
 pub returns-in_default : goal.returns-in_default
 returns-in_default g c =
-    let n = g.K.Keeper.capacity in
+    let n = g.K.Keeper.CAPACITY in
     let h = held (g.K.Keeper.before c.args.self.now.keeper) c.args.self.now in
     let w = row c.new_step-in_default.result in
     draft_step_line n h w c.args.task _ (λ p. c.in_default.not-Initial (c.phase.ensures ∙ p)) c.new_step-in_default.ensures.answer c.new_step-in_default.ensures.after

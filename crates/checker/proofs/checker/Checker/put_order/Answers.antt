@@ -10,7 +10,7 @@ use Rattle.checker.specs.Meaning.{held}
 
 pub returns-in-Initial : goal.returns-in-Initial
 returns-in-Initial g c =
-    let n = g.K.Keeper.capacity in
+    let n = g.K.Keeper.CAPACITY in
     let h = held (g.K.Keeper.before c.args.self.now.keeper) c.args.self.now in
     let w = row c.put_order.result in
     let a = c.args.earlier in
@@ -27,7 +27,7 @@ returns-in-Initial g c =
 
 pub returns-in_default : goal.returns-in_default
 returns-in_default g c =
-    let n = g.K.Keeper.capacity in
+    let n = g.K.Keeper.CAPACITY in
     let h = held (g.K.Keeper.before c.args.self.now.keeper) c.args.self.now in
     draft_order_line n h (row c.put_order-in_default.result) c.args.earlier c.args.later _
     (⊎_elim (λ e. c.in_default.not-Initial (c.phase.ensures ∙ e)) (λ e. c.in_default.not-Refine (c.phase.ensures ∙ e)))

@@ -4,7 +4,7 @@ use Rattle.checker.proofs.checker.Checker.run.Goals as goal
 use Rattle.checker.specs.Runs.{after_lines, texts}
 
 pub loop-next-init : goal.loop-next-init
-loop-next-init g c = (omega arith, omega arith, λ past means. start g.K.Keeper.capacity past c.args.text.now c.args.page.now _ means)
+loop-next-init g c = (omega arith, omega arith, λ past means. start g.K.Keeper.CAPACITY past c.args.text.now c.args.page.now _ means)
 
 pub loop-next-preserved : goal.loop-next-preserved
 loop-next-preserved g c = (
@@ -12,7 +12,7 @@ loop-next-preserved g c = (
   omega (arith, c.answer_on-written.ensures.within, c.loop-next.auto.page),
   λ past means.
       let so = c.loop-next.invariant.2 past means in
-      turn g.K.Keeper.capacity past c.args.text.now c.args.page.now c.loop-next.next c.loop-next.written c.loop-next.page _ so
+      turn g.K.Keeper.CAPACITY past c.args.text.now c.args.page.now c.loop-next.next c.loop-next.written c.loop-next.page _ so
       c.in-Some.line.text.now c.in-Some.line.next c.answer_on-written.result c.answer_on-written.new.page _ c.in-Some.ensures.line (sym c.has_room.ensures ∙ c.loop-next-test.true)
       (c.answer_on-written.ensures.told (after_lines past (texts so.told)) so.means),
 )
@@ -26,7 +26,7 @@ returns-after-loop-next g c =
     record {
       within = (c.loop-next.invariant.0, c.loop-next.invariant.1);
       runs = λ past means.
-          no_room g.K.Keeper.capacity past c.args.text.now c.args.page.now c.loop-next.next c.loop-next.written c.loop-next.page _ (c.loop-next.invariant.2 past means)
+          no_room g.K.Keeper.CAPACITY past c.args.text.now c.args.page.now c.loop-next.next c.loop-next.written c.loop-next.page _ (c.loop-next.invariant.2 past means)
           few.0 few.1 (sym c.has_room.ensures ∙ c.loop-next-test.false);
     }
 
@@ -36,6 +36,6 @@ returns-in_default g c =
     record {
       within = (c.loop-next.invariant.0, c.loop-next.invariant.1);
       runs = λ past means.
-          no_line g.K.Keeper.capacity past c.args.text.now c.args.page.now c.loop-next.next c.loop-next.written c.loop-next.page _ (c.loop-next.invariant.2 past means)
+          no_line g.K.Keeper.CAPACITY past c.args.text.now c.args.page.now c.loop-next.next c.loop-next.written c.loop-next.page _ (c.loop-next.invariant.2 past means)
           few.0 few.1 c.in_default.ensures.line;
     }

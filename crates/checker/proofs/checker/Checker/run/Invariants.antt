@@ -9,8 +9,8 @@ abbrev pub invariant-loop-next : goal.invariant-loop-next
 invariant-loop-next g l =
     (l.next ≤ length l.initial.text)
     × (l.written ≤ length l.initial.page)
-    × ((past : History) → Means (held (g.K.Keeper.before l.initial.self.keeper) l.initial.self) (state g.K.Keeper.capacity past)
-    → Sofar g.K.Keeper.capacity past l.initial.text l.initial.page l.next l.written l.page (held (g.K.Keeper.before l.self.keeper) l.self))
+    × ((past : History) → Means (held (g.K.Keeper.before l.initial.self.keeper) l.initial.self) (state g.K.Keeper.CAPACITY past)
+    → Sofar g.K.Keeper.CAPACITY past l.initial.text l.initial.page l.next l.written l.page (held (g.K.Keeper.before l.self.keeper) l.self))
 
 -- what is left of the text
 abbrev pub decreases-loop-next : goal.decreases-loop-next

@@ -11,7 +11,7 @@ returns-in_err-put_brought g c =
     let keeper = g.K.Keeper in
     let s = c.args.self.now.leaving in
     let drops = c.drop_step.ensures ∙ ap (λ (R : Relation). dropped R s) c.copied-next.ensures in
-    let none = tried_new keeper.capacity (tasks c.args.known.now) (keeper.before c.args.keeper.now) c.args.self.now (given_steps c.args.after.now.steps) (items c.args.after.now.links) c.requires
+    let none = tried_new keeper.CAPACITY (tasks c.args.known.now) (keeper.before c.args.keeper.now) c.args.self.now (given_steps c.args.after.now.steps) (items c.args.after.now.links) c.requires
     (keeper.before c.drop_step.new.self) (keeper.before c.put_brought.new.next) false drops c.in_err-put_brought.ensures in
     search rules
 
@@ -20,5 +20,5 @@ returns g c =
     let keeper = g.K.Keeper in
     let s = c.args.self.now.leaving in
     let drops = c.drop_step.ensures ∙ ap (λ (R : Relation). dropped R s) c.copied-next.ensures in
-    tried_new keeper.capacity (tasks c.args.known.now) (keeper.before c.args.keeper.now) c.args.self.now (given_steps c.args.after.now.steps) (items c.args.after.now.links) c.requires
+    tried_new keeper.CAPACITY (tasks c.args.known.now) (keeper.before c.args.keeper.now) c.args.self.now (given_steps c.args.after.now.steps) (items c.args.after.now.links) c.requires
     (keeper.before c.drop_step.new.self) (keeper.before c.put_brought.new.next) true drops c.in_ok-put_brought.ensures

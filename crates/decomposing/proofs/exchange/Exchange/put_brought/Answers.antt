@@ -13,7 +13,7 @@ use Rattle.decomposing.proofs.exchange.Exchange.put_brought.Goals as goal
 pub returns-in_err-put_inherited : goal.returns-in_err-put_inherited
 returns-in_err-put_inherited g c =
     let keeper = g.K.Keeper in
-    let n = keeper.capacity in
+    let n = keeper.CAPACITY in
     let ts = tasks c.args.known.now in
     let R = keeper.before c.args.keeper.now in
     let e = c.args.self.now in
@@ -26,7 +26,7 @@ returns-in_err-put_inherited g c =
 pub returns-in_err-put_inherited-2 : goal.returns-in_err-put_inherited-2
 returns-in_err-put_inherited-2 g c =
     let keeper = g.K.Keeper in
-    let n = keeper.capacity in
+    let n = keeper.CAPACITY in
     let ts = tasks c.args.known.now in
     let R = keeper.before c.args.keeper.now in
     let e = c.args.self.now in
@@ -41,7 +41,7 @@ returns-in_err-put_inherited-2 g c =
 pub returns-in_err-put_own : goal.returns-in_err-put_own
 returns-in_err-put_own g c =
     let keeper = g.K.Keeper in
-    let n = keeper.capacity in
+    let n = keeper.CAPACITY in
     let ts = tasks c.args.known.now in
     let R = keeper.before c.args.keeper.now in
     let e = c.args.self.now in
@@ -57,7 +57,7 @@ returns-in_err-put_own g c =
 pub returns : goal.returns
 returns g c =
     let keeper = g.K.Keeper in
-    let n = keeper.capacity in
+    let n = keeper.CAPACITY in
     let ts = tasks c.args.known.now in
     let R = keeper.before c.args.keeper.now in
     let e = c.args.self.now in

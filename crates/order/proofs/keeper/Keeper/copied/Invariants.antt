@@ -1,5 +1,5 @@
-use Rattle.order.proofs.Copies.{Partly}
+use Rattle.order.proofs.Copying.{RowsCopied}
 use Rattle.order.proofs.keeper.Keeper.copied.Given as goal
 
-abbrev pub invariant-loop-place : goal.invariant-loop-place
-invariant-loop-place g l = let m = g.Self.Keeper in Partly m.capacity (m.before l.self) (m.before l.copy) l.place
+abbrev pub invariant-loop-a : goal.invariant-loop-a
+invariant-loop-a g l = let m = g.Self.Keeper in RowsCopied (m.before l.self) l.a (m.before l.copy)

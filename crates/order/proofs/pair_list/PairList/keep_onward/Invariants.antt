@@ -1,9 +1,8 @@
-use Rattle.std.proofs.Common.{◌≡◌, take, drop}
-use Rattle.order.specs.Stored.{closure, onward, put_some}
+use Rattle.std.proofs.Common.{◌≡◌, drop}
+use Rattle.order.specs.PairLists.{follows_from}
+use Rattle.order.specs.Stored.{onward, put_some}
 use Rattle.order.proofs.pair_list.PairList.keep_onward.Given as goal
 
-abbrev pub invariant-loop-i : goal.invariant-loop-i
-invariant-loop-i l =
-    let ps = take l.self.count l.self.pairs in
-    put_some 32 (closure (take l.rest.count l.rest.pairs)) (onward l.a l.x (drop l.i ps))
-    ≡ put_some 32 (closure (take l.initial.rest.count l.initial.rest.pairs)) (onward l.a l.x ps)
+abbrev pub invariant-loop-pair : goal.invariant-loop-pair
+invariant-loop-pair l =
+    put_some 32 (follows_from l.rest) (onward l.a l.x (drop l.pair-index l.pair-items)) ≡ put_some 32 (follows_from l.initial.rest) (onward l.a l.x l.pair-items)

@@ -1,9 +1,8 @@
-use Rattle.std.proofs.Common.{◌≡◌, take, drop}
-use Rattle.order.specs.Stored.{closure, others, put_some}
+use Rattle.std.proofs.Common.{◌≡◌, drop}
+use Rattle.order.specs.PairLists.{follows_from}
+use Rattle.order.specs.Stored.{others, put_some}
 use Rattle.order.proofs.pair_list.PairList.keep_others.Given as goal
 
-abbrev pub invariant-loop-i : goal.invariant-loop-i
-invariant-loop-i l =
-    let ps = take l.self.count l.self.pairs in
-    put_some 32 (closure (take l.rest.count l.rest.pairs)) (others l.a (drop l.i ps))
-    ≡ put_some 32 (closure (take l.initial.rest.count l.initial.rest.pairs)) (others l.a ps)
+abbrev pub invariant-loop-pair : goal.invariant-loop-pair
+invariant-loop-pair l =
+    put_some 32 (follows_from l.rest) (others l.a (drop l.pair-index l.pair-items)) ≡ put_some 32 (follows_from l.initial.rest) (others l.a l.pair-items)

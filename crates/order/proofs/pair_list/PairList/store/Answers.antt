@@ -1,58 +1,44 @@
-use Rattle.std.proofs.Common.{take, sym, ◌∙◌, arith}
-use Rattle.std.proofs.lemmas.List.{length-set}
+use Rattle.std.proofs.Common.{sym, ◌∙◌}
 use Rattle.std.proofs.lemmas.Bool.{cond-true, true≢false}
-use Rattle.order.specs.Puts.{can_put}
-use Rattle.order.specs.Stored.{closure}
-use Rattle.order.specs.Lists.{stored_from}
+use Rattle.fixed.specs.Items.{items}
 use Rattle.order.specs.Ordered.{free_from, put_already}
-use Rattle.order.proofs.Pushes.{push_put, push_room, push_stored}
+use Rattle.order.specs.PairLists.{follows_from, list_order, list_stored}
+use Rattle.order.specs.Puts.{can_put}
+use Rattle.order.proofs.Pushes.{pushed_put, pushed_stored}
 use Rattle.order.proofs.pair_list.PairList.store.Goals as goal
 use Rattle.semantics.specs.Orders.{put}
 
-pub bounds-self-self : goal.bounds-self-self
-bounds-self-self c =
-    let me = c.args.self.now in
-    let ps = take me.count me.pairs in
-    push_room me.pairs me.count me.long me.room (stored_from 32 ps me.ok) c.args.a c.args.b
-    (free_from 32 (closure ps) c.args.a c.args.b (sym c.if-not-can_put.ensures)) (sym c.if-not-follows.ensures)
-
 pub invariant_of-self : goal.invariant_of-self
+unfolding follows_from
 invariant_of-self c =
     let me = c.args.self.now in
-    let ps = take me.count me.pairs in
-    let s = stored_from 32 ps me.ok in
-    let f = free_from 32 (closure ps) c.args.a c.args.b (sym c.if-not-can_put.ensures) in
-    let new = sym c.if-not-follows.ensures in
+    let free = free_from 32 (follows_from me) c.args.a c.args.b (sym c.if-not-can_put.ensures) in
     record {
-      ok = ∣ push_stored me.pairs me.count me.long me.room s c.args.a c.args.b f new ∣₁;
-      long = length-set me.pairs me.count (c.args.a, c.args.b) ∙ me.long;
-      room = omega (arith, push_room me.pairs me.count me.long me.room s c.args.a c.args.b f new);
+      ok = ∣ pushed_stored (items me.pairs) (items c.push.new.self) (list_stored me) c.args.a c.args.b free (sym c.if-not-follows.ensures) _ c.push.ensures.room c.push.ensures.after ∣₁;
     }
 
 pub returns-then-not-follows : goal.returns-then-not-follows
+unfolding follows_from
 returns-then-not-follows c =
     let me = c.args.self.now in
-    let ps = take me.count me.pairs in
-    let a = c.args.a in
-    let b = c.args.b in
+    let R = follows_from me in
     let can = c.if-not-can_put.ensures in
+    let free = free_from 32 R c.args.a c.args.b (sym can) in
     record {
       test = can;
-      after = push_put me.pairs me.count me.long me.room (stored_from 32 ps me.ok) a b (free_from 32 (closure ps) a b (sym can)) (sym c.if-not-follows.ensures)
-          ∙ sym (cond-true (can_put 32 (closure ps) a b) (put (closure ps) a b) (closure ps) (sym can));
+      after = pushed_put (items me.pairs) (items c.push.new.self) (list_stored me) c.args.a c.args.b free (sym c.if-not-follows.ensures) _ c.push.ensures.room c.push.ensures.after
+          ∙ sym (cond-true (can_put 32 R c.args.a c.args.b) (put R c.args.a c.args.b) R (sym can));
       same = λ h. absurd (true≢false h);
     }
 
 pub returns-else-not-follows : goal.returns-else-not-follows
 returns-else-not-follows c =
     let me = c.args.self.now in
-    let ps = take me.count me.pairs in
-    let a = c.args.a in
-    let b = c.args.b in
+    let R = follows_from me in
     let can = c.if-not-can_put.ensures in
     record {
       test = can;
-      after = put_already (closure ps) a b (stored_from 32 ps me.ok).order.strict.passes_on (sym c.if-not-follows.ensures)
-          ∙ sym (cond-true (can_put 32 (closure ps) a b) (put (closure ps) a b) (closure ps) (sym can));
+      after = put_already R c.args.a c.args.b (list_order me).strict.passes_on (sym c.if-not-follows.ensures)
+          ∙ sym (cond-true (can_put 32 R c.args.a c.args.b) (put R c.args.a c.args.b) R (sym can));
       same = λ h. absurd (true≢false h);
     }

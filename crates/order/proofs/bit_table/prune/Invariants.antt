@@ -1,6 +1,0 @@
-use Rattle.masks.proofs.Rows.{Mapped}
-use Rattle.order.specs.Marks.{pruned}
-use Rattle.order.proofs.bit_table.prune.Given as goal
-
-abbrev pub invariant-loop-x : goal.invariant-loop-x
-invariant-loop-x l = Mapped (pruned l.a) l.initial.rows l.rows l.x
