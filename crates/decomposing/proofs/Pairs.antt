@@ -1,6 +1,7 @@
 -- The pairs of a decomposition, as iterators hand them out.
-use Rattle.std.proofs.Common.{◌≡◌, ℕ, zero, suc, ◌+◌, Bool, true, false, cond, ◌&&◌, List, [], ◌∷◌, ◌++◌, map, filter, length, Some, None, Option, sym, refl, ap, ◌∙◌, add-one, arith}
+use Rattle.std.proofs.Common.{◌≡◌, ℕ, zero, suc, ◌+◌, Bool, true, false, cond, ◌&&◌, List, [], ◌∷◌, ◌++◌, map, filter, length, Option, sym, refl, ap, ◌∙◌, add-one}
 use Rattle.std.specs.List.{flat_map, range_with_len}
+use Rattle.plan.proofs.Present.{present_steps}
 use Rattle.semantics.specs.Decomposing.{each_to, link_pairs, pairs_among, row_pairs, shifted, to_each, turned, upfrom}
 use Rattle.semantics.specs.OpenLines.{is_step}
 use Rattle.semantics.specs.Orders.{Relation}
@@ -14,29 +15,6 @@ use Rattle.decomposing.specs.declared.exchange.Side.TheVariants.{After, Before}
 pub upfrom_range : (n k : ℕ) → upfrom n k ≡ range_with_len n k
 upfrom_range n zero = refl
 upfrom_range n (suc k) = ap (λ ns. n ∷ ns) (upfrom_range (suc n) k ∙ ap (λ m. range_with_len m k) (sym (add-one n)))
-
--- ---- the present steps are those numbers that pass the test
-
-module _ (test present : ℕ → Bool) where
-  abbrev both : ℕ → Bool
-  both x = present x && test x
-
-  -- the steps os have the numbers from k on
-  kept : (k : ℕ) (os : List (Option ℕ)) → ((i : ℕ) → present (k + i) ≡ is_step os i) → filter both (range_with_len k (length os)) ≡ filter test (present_from k os)
-  kept k [] h = refl
-  kept k (None ∷ os) h =
-      let here : present k ≡ false = ap present (let z : k ≡ k + 0 = omega arith in z) ∙ h 0 in
-      let later : filter both (range_with_len (suc k) (length os)) ≡ filter test (present_from (suc k) os) = kept (suc k) os (λ i. ap present (let z : suc k + i ≡ k + suc i = omega arith in z) ∙ h (suc i)) in
-      ap (λ b. cond (b && test k) (k ∷ filter both (range_with_len (k + 1) (length os))) (filter both (range_with_len (k + 1) (length os)))) here
-      ∙ ap (λ n. filter both (range_with_len n (length os))) (add-one k) ∙ later
-  kept k (Some t ∷ os) h =
-      let here : present k ≡ true = ap present (let z : k ≡ k + 0 = omega arith in z) ∙ h 0 in
-      let later : filter both (range_with_len (suc k) (length os)) ≡ filter test (present_from (suc k) os) = kept (suc k) os (λ i. ap present (let z : suc k + i ≡ k + suc i = omega arith in z) ∙ h (suc i)) in
-      ap (λ b. cond (b && test k) (k ∷ filter both (range_with_len (k + 1) (length os))) (filter both (range_with_len (k + 1) (length os)))) here
-      ∙ ap (λ xs. cond (test k) (k ∷ xs) xs) (ap (λ n. filter both (range_with_len n (length os))) (add-one k) ∙ later)
-
-present_steps : (test : ℕ → Bool) (os : List (Option ℕ)) → filter (λ x. is_step os x && test x) (range_with_len 0 (length os)) ≡ filter test (present_from 0 os)
-present_steps test os = kept test (is_step os) 0 os (λ i. ap (is_step os) (let z : 0 + i ≡ i = omega arith in z))
 
 -- ---- each old step with each new one
 

@@ -10,6 +10,7 @@ pub struct Exchange<'a> {
 }
 
 /// On which side of the step that leaves another step stands.
+// A value and not a closure: the clauses name the side, and would name what calls of a closure answer.
 #[derive(Clone, Copy)]
 pub enum Side {
     Before,

@@ -17,10 +17,11 @@ use fixed::{Fixed, Full};
 use links::try_join;
 use methods::Entry;
 use page::Side;
+use plan::Links;
 use semantics::Link;
 
 /// A list of the links that an iterator hands out, where equal ones are one. They may be more than 256.
-fn joined<I: Iterator<Item = Link> + Drop>(links: I) -> Result<Fixed<Link, 256>, Full>
+fn joined<I: Iterator<Item = Link> + Drop>(links: I) -> Result<Links, Full>
     requires can { I.can_next links }
     requires ends { IsFinite (I.remaining links) }
     ensures { (ls : List linked.Link) → AlwaysYields I.next_gives (λ l. l) links ls → Joined result (with_links [] ls) }
@@ -75,7 +76,7 @@ impl Exchange<'_> {
     }
 
     /// The links once the step has left, where equal ones are one. They may be more than 256.
-    pub fn links_after(&self) -> Result<Fixed<Link, 256>, Full>
+    pub fn links_after(&self) -> Result<Links, Full>
         ensures { Joined result (with_links [] (map (passed_down (first self.now) self.now.leaving (method self.now.method.now)) (items self.now.target.now.links) ++ map (renumbered (first self.now)) (method self.now.method.now).links)) }
     {
         let passed = self

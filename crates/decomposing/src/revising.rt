@@ -9,15 +9,14 @@ ghost use Rattle.decomposing.specs.Exchanges.{old_steps};
 ghost use Rattle.decomposing.specs.Revising.{Revises};
 
 use crate::exchange::Exchange;
-use fixed::{Fixed, Full};
-use plan::Steps;
-use semantics::Link;
+use fixed::Full;
+use plan::{Links, Steps};
 
 /// The steps and the links of a plan.
 #[derive(Drop)]
 pub struct Revised {
     pub(super) steps: Steps,
-    pub(super) links: Fixed<Link, 256>,
+    pub(super) links: Links,
 }
 
 /// Gives steps of these tasks the next numbers, in their order, until one would be the 65th.

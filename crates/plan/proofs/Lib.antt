@@ -1,6 +1,5 @@
-mod Finds
 mod Lowest
 mod Ups
-mod Present
+pub mod Present
 mod Sums
 mod Takes

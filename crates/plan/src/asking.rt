@@ -8,9 +8,8 @@ ghost use Rattle.plan.specs.Meaning.{given_steps, present};
 ghost use Rattle.semantics.specs.OpenLines.{is_step};
 ghost use Rattle.semantics.specs.Plans.{at_task};
 
-use crate::{Plan, Steps};
+use crate::{Links, Plan, Steps};
 use domain::{Task, Tasks};
-use fixed::Fixed;
 use semantics::Link;
 
 impl Plan {
@@ -37,7 +36,7 @@ impl Plan {
     }
 
     /// Puts other steps and links in place of these.
-    pub fn revise(&mut self, steps: Steps, links: Fixed<Link, 256>)
+    pub fn revise(&mut self, steps: Steps, links: Links)
         ensures steps { given_steps self.new.steps ≡ given_steps steps }
         ensures links { items self.new.links ≡ items links }
     {

@@ -13,6 +13,6 @@ mod progress;
 mod steps;
 mod taking;
 
-pub use plan::Plan;
+pub use plan::{Links, Plan};
 pub use progress::Progress;
 pub use steps::Steps;

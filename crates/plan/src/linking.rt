@@ -73,6 +73,7 @@ impl Plan {
         ensures answer { l.producer < K.CAPACITY → l.consumer < K.CAPACITY → row result ≡ first_of (room_causes (items self.old.links) (K.before keeper.old) 256 l ordered) 0 }
         ensures after { plan (K.before keeper.new) self.new ≡ told (row result) (linked_in (plan (K.before keeper.old) self.old) l ordered) (plan (K.before keeper.old) self.old) }
     {
+        // Asked before the order changes, so that a refused link changes nothing.
         if !has_room(&self.links, l) {
             return Err(Refusal::LimitPassed);
         }

@@ -6,7 +6,7 @@ use Rattle.std.proofs.lemmas.Iterator.Search.{find_from_yields_List}
 use Rattle.semantics.specs.OpenLines.{is_step}
 use Rattle.plan.specs.Following.{is_behind}
 use Rattle.plan.specs.Meaning.{given_steps}
-use Rattle.plan.proofs.Finds.{first_step}
+use Rattle.plan.proofs.Present.{first_step}
 use Rattle.plan.proofs.plan.Plan.first_behind.Goals as goal
 
 pub returns : goal.returns
