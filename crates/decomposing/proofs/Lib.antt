@@ -1,7 +1,7 @@
+mod Handing
 mod Tries
 mod Brings
-mod Splits
-mod Passes
-mod Appends
+mod Joins
+mod Pairs
 mod Lows
 mod Decides

@@ -1,7 +1,7 @@
 -- The pairs that a decomposition brings have numbers below the capacity.
 use Rattle.std.proofs.Common.{◌≡◌, ℕ, ◌+◌, ◌<◌, ◌≤◌, Bool, true, false, cond, List, [], ◌∷◌, ◌++◌, length, Some, None, Option, sym, refl, ap, ◌∙◌, inl, inr, ⊎_elim, arith, length-append, length-set}
 use lib.ListN.{length-map}
-use Rattle.std.proofs.lemmas.Option.{slice_get_past}
+use Rattle.std.proofs.lemmas.Option.{slice_get_past, slice_get_within}
 use Rattle.std.proofs.lemmas.Bool.{cases_lt}
 use Rattle.std.specs.List.{slice_get}
 use Rattle.order.specs.Puts.{Low}
@@ -19,12 +19,8 @@ use Rattle.semantics.proofs.Inherited.{in_number}
 abbrev Below : ℕ → List ℕ → Type 0
 Below n xs = (x : ℕ) → In x xs → x < n
 
--- what stands in a list has a number below its length
-pub there_below : {X : Type 0} (xs : List X) (i : ℕ) (x : X) → slice_get xs i ≡ Some x → i < length xs
-there_below xs i x e = ⊎_elim (λ h. h) (λ (h : length xs ≤ i). let z : None ≡ Some x = sym (slice_get_past xs i h) ∙ e in let k : ◌≡◌ {A = ℕ} 0 1 = cc in omega arith) (cases_lt i (length xs))
-
 below_present : (n : ℕ) (os : List (Option ℕ)) → length os ≤ n → Below n (present_from 0 os)
-below_present n os h x i = let r = in_number os 0 x i in let l = there_below os r.0 (Some r.1) r.3 in omega (arith, r.2)
+below_present n os h x i = let r = in_number os 0 x i in let l = slice_get_within os r.0 (Some r.1) r.3 in omega (arith, r.2)
 
 below_new : (n first k : ℕ) → first + k ≤ n → Below n (upfrom first k)
 below_new n first k h x i = let r = (upfrom_in first k x).0 i in omega (arith, r.1)

@@ -1,4 +1,4 @@
 pub mod Trying
-pub mod Sides
+pub mod Exchanges
 pub mod Joining
 pub mod Revising

@@ -1,9 +1,12 @@
-/// A step that leaves a plan, and the numbers of the steps that come in its place: those from `first` to below `end`.
+use methods::Method;
+use plan::Plan;
+
+/// A step of a plan that leaves, and the method whose steps come in its place.
 #[derive(Clone, Copy)]
-pub struct Exchange {
+pub struct Exchange<'a> {
+    pub(super) target: &'a Plan,
     pub(super) leaving: u8,
-    pub(super) first: u8,
-    pub(super) end: u8,
+    pub(super) method: &'a Method,
 }
 
 /// On which side of the step that leaves another step stands.

@@ -1,82 +1,46 @@
 //! Order that the new steps inherit from the step that leaves.
-ghost use Rattle.std.specs.Prelude.{◌≡◌, [], ◌∷◌, is_ok};
-ghost use Rattle.fixed.specs.Items.{items};
-ghost use Rattle.semantics.specs.Decomposing.{to_each};
+ghost use Rattle.std.specs.Prelude.{◌≡◌, ◌&&◌, is_ok};
+ghost use Rattle.semantics.specs.OpenLines.{is_step};
 ghost use Rattle.semantics.specs.Plans.{present_from};
-ghost use Rattle.decomposing.specs.Sides.{beside, facing, inherited, inherited_by, numbers};
+ghost use Rattle.decomposing.specs.Exchanges.{beside, facing_pair, inherited, numbers, old_steps};
 ghost use Rattle.decomposing.specs.Trying.{Tried};
 
 use crate::exchange::{Exchange, Side};
+use crate::putting::put_each;
 use order::{Keeper, Refused};
-use plan::Plan;
 
-/// Whether step `x` stands on that side of step `s`.
-fn is_beside<K: Keeper>(keeper: &K, side: Side, s: u8, x: u8) -> bool
-    ensures { result ≡ beside side (K.before keeper.now) s x }
-{
-    match side {
-        Side::Before => keeper.before(x, s),
-        Side::After => keeper.before(s, x),
+impl Side {
+    /// A step on that side of another, and that other, as the earlier and the later one.
+    fn pair(self, x: u8, y: u8) -> (u8, u8)
+        ensures { result ≡ facing_pair self x y }
+    {
+        match self {
+            Side::Before => (x, y),
+            Side::After => (y, x),
+        }
     }
 }
 
-/// Puts step `x` on that side of step `y`.
-fn put_beside<K: Keeper>(next: &mut K, side: Side, x: u8, y: u8) -> Result<(), Refused>
-    ensures { Tried K.CAPACITY (K.before next.old) (facing side ((x, y) ∷ [])) (is_ok result) (K.before next.new) }
-{
-    match side {
-        Side::Before => next.put(x, y),
-        Side::After => next.put(y, x),
+impl Exchange<'_> {
+    /// Whether step `x` is present and stands on that side of the step that leaves.
+    fn is_beside<K: Keeper>(&self, keeper: &K, side: Side, x: u8) -> bool
+        ensures { result ≡ (is_step (old_steps self.now) x && beside side (K.before keeper.now) self.now.leaving x) }
+    {
+        let (a, b) = side.pair(x, self.leaving);
+        self.target.is_step(x) && keeper.before(a, b)
     }
-}
 
-/// Puts step `x` on that side of each new step.
-fn put_with_each<K: Keeper>(
-    next: &mut K,
-    side: Side,
-    x: u8,
-    places: Exchange,
-) -> Result<(), Refused>
-    ensures { Tried K.CAPACITY (K.before next.old) (facing side (to_each x (numbers places))) (is_ok result) (K.before next.new) }
-{
-    for y in places.first..places.end {
-        put_beside(next, side, x, y)?;
+    /// Puts each present step on that side of the step that leaves on the same side of each new step.
+    pub fn put_inherited<K: Keeper>(
+        &self,
+        next: &mut K,
+        keeper: &K,
+        side: Side,
+    ) -> Result<(), Refused>
+        ensures { Tried K.CAPACITY (K.before next.old) (inherited side (K.before keeper.now) self.now.leaving (present_from 0 (old_steps self.now)) (numbers self.now)) (is_ok result) (K.before next.new) }
+    {
+        let old = (0..self.target.given()).filter(|x| self.is_beside(keeper, side, *x));
+        let pairs = old.flat_map(|x| self.numbers().map(move |y| side.pair(x, y)));
+        put_each(next, pairs)
     }
-    Ok(())
-}
-
-/// Puts step `x` on that side of each new step, if it is present and stands so to the step that leaves.
-fn put_row<K: Keeper>(
-    next: &mut K,
-    keeper: &K,
-    target: &Plan,
-    side: Side,
-    x: u8,
-    places: Exchange,
-) -> Result<(), Refused>
-    ensures { Tried K.CAPACITY (K.before next.old) (inherited_by side (K.before keeper.now) places.leaving (items target.now.steps) x (numbers places)) (is_ok result) (K.before next.new) }
-{
-    if !target.is_step(x) {
-        return Ok(());
-    }
-    if !is_beside(keeper, side, places.leaving, x) {
-        return Ok(());
-    }
-    put_with_each(next, side, x, places)
-}
-
-/// Puts each present step on that side of the step that leaves on the same side of each new step.
-pub fn put_inherited<K: Keeper>(
-    next: &mut K,
-    keeper: &K,
-    target: &Plan,
-    side: Side,
-    places: Exchange,
-) -> Result<(), Refused>
-    ensures { Tried K.CAPACITY (K.before next.old) (inherited side (K.before keeper.now) places.leaving (present_from 0 (items target.now.steps)) (numbers places)) (is_ok result) (K.before next.new) }
-{
-    for x in 0..target.given() {
-        put_row(next, keeper, target, side, x, places)?;
-    }
-    Ok(())
 }

@@ -8,7 +8,9 @@ mod decomposing;
 mod exchange;
 mod inheriting;
 mod joining;
+mod numbering;
 mod passing;
+mod putting;
 mod revising;
 
 pub use decomposing::decompose;

@@ -1,122 +1,93 @@
 //! The links of a plan once a step is decomposed: those at the step are handed on, and those of the method join.
-ghost use Rattle.std.specs.Prelude.{◌≡◌, ◌<◌, ◌≤◌, [], ◌++◌, map, length, MatchOption};
+ghost use Rattle.std.specs.Prelude.{◌≡◌, ◌<◌, List, [], ◌++◌, map, ◌==◌};
+ghost use Rattle.std.specs.Iterator.{AlwaysYields, IsFinite};
 ghost use Rattle.std.specs.Option.{option_map};
 ghost use Rattle.fixed.specs.Items.{items};
-ghost use Rattle.methods.specs.Ends.{SmallEnds};
 ghost use Rattle.methods.specs.Meaning.{method};
 ghost use Rattle.methods.specs.Places.{place};
 ghost use Rattle.methods.specs.Routes.{entry_step};
 ghost use Rattle.semantics.specs.Decomposing.{moved, passed_down, renumbered};
-ghost use Rattle.semantics.specs.Plans.{with_link, with_links};
+ghost use Rattle.semantics.specs.Plans.{with_links};
+ghost use Rattle.semantics.specs.declared.link.Link as linked;
+ghost use Rattle.decomposing.specs.Exchanges.{first};
 ghost use Rattle.decomposing.specs.Joining.{Joined};
 
-use fixed::Fixed;
-use links::is_linked;
-use methods::{Entry, Method};
-use plan::Plan;
+use crate::exchange::Exchange;
+use fixed::{Fixed, Full};
+use links::try_join;
+use methods::Entry;
+use page::Side;
 use semantics::Link;
 
-/// Where an end of a link goes: to the step and label of the entry, if it stands at the step that leaves and there is one.
-fn moved(leaves: bool, first: u8, goes: Option<Entry>, step: u8, label: u8) -> (u8, u8)
-    requires { (first ≤ 64) × (entry_step goes < 8) }
-    ensures { result ≡ moved leaves first (option_map place goes) step label }
+/// A list of the links that an iterator hands out, where equal ones are one. They may be more than 256.
+fn joined<I: Iterator<Item = Link> + Drop>(links: I) -> Result<Fixed<Link, 256>, Full>
+    requires can { I.can_next links }
+    requires ends { IsFinite (I.remaining links) }
+    ensures { (ls : List linked.Link) → AlwaysYields I.next_gives (λ l. l) links ls → Joined result (with_links [] ls) }
 {
-    match goes {
-        Some(to) if leaves => (first + to.step, to.label),
-        _ => (step, label),
-    }
-}
-
-/// A link of the plan, with each end at step `s` handed on to the step and label that the method names for it.
-fn passed_down(m: &Method, first: u8, s: u8, link: Link) -> Link
-    requires { first ≤ 64 }
-    ensures { result ≡ passed_down first s (method m.now) link }
-{
-    let goes = m.add_goes(link.add);
-    let (producer, add) = moved(link.producer == s, first, goes, link.producer, link.add);
-    let goes = m.need_goes(link.need);
-    let (consumer, need) = moved(link.consumer == s, first, goes, link.consumer, link.need);
-    Link {
-        producer,
-        add,
-        consumer,
-        need,
-    }
-}
-
-/// A link of the method, whose steps are numbered from `first`.
-fn renumbered(first: u8, link: Link) -> Link
-    requires { (first ≤ 64) × ((link.producer < 8) × (link.consumer < 8)) }
-    ensures { result ≡ renumbered first link }
-{
-    Link {
-        producer: first + link.producer,
-        add: link.add,
-        consumer: first + link.consumer,
-        need: link.need,
-    }
-}
-
-/// Ends the list with the link, unless it stands there, and answers true. Where it would be the 257th it answers false.
-fn join(out: &mut Fixed<Link, 256>, link: Link) -> bool
-    ensures { Joined result (items out.new) (with_link (items out.old) link) }
-{
-    if is_linked(link, out.as_slice()) {
-        return true;
-    }
-    out.push(link).is_ok()
-}
-
-/// Joins a link of the plan, handed on where it is at step `s`.
-fn hand_on(out: &mut Fixed<Link, 256>, m: &Method, first: u8, s: u8, link: Link) -> bool
-    requires { first ≤ 64 }
-    ensures { Joined result (items out.new) (with_link (items out.old) (passed_down first s (method m.now) link)) }
-{
-    join(out, passed_down(m, first, s, link))
-}
-
-/// Joins the links of a plan, those at step `s` handed on, until one would be the 257th.
-fn join_passed(out: &mut Fixed<Link, 256>, links: &[Link], m: &Method, first: u8, s: u8) -> bool
-    requires { first ≤ 64 }
-    ensures { Joined result (items out.new) (with_links (items out.old) (map (passed_down first s (method m.now)) links.now)) }
-{
+    let mut list = Fixed::new(Link::default());
     for link in links {
-        if !hand_on(out, m, first, s, *link) {
-            return false;
+        try_join(&mut list, link)?;
+    }
+    Ok(list)
+}
+
+impl Exchange<'_> {
+    /// Where an end of a link goes: to the step and label of the entry, if it stands at the step that leaves and there is one.
+    fn moved(&self, goes: Option<Entry>, step: u8, label: u8) -> (u8, u8)
+        requires { entry_step goes < 8 }
+        ensures { result ≡ moved (step == self.now.leaving) (first self.now) (option_map place goes) step label }
+    {
+        match goes {
+            Some(to) if step == self.leaving => (self.first() + to.step, to.label),
+            _ => (step, label),
         }
     }
-    true
-}
 
-/// Joins the links of a method, whose steps are numbered from `first`, until one would be the 257th.
-fn join_renumbered(out: &mut Fixed<Link, 256>, links: &[Link], first: u8) -> bool
-    requires { (first ≤ 64) × (SmallEnds links.now) }
-    ensures { Joined result (items out.new) (with_links (items out.old) (map (renumbered first) links.now)) }
-{
-    for link in links {
-        if !join(out, renumbered(first, *link)) {
-            return false;
+    /// A link of the plan, with each end at the step that leaves handed on to the step and label that the method names for it.
+    fn passed_down(&self, link: Link) -> Link
+        ensures { result ≡ passed_down (first self.now) self.now.leaving (method self.now.method.now) link }
+    {
+        let given = self.method.goes(Side::Add, link.add);
+        let (producer, add) = self.moved(given, link.producer, link.add);
+        let wanted = self.method.goes(Side::Need, link.need);
+        let (consumer, need) = self.moved(wanted, link.consumer, link.need);
+        Link {
+            producer,
+            add,
+            consumer,
+            need,
         }
     }
-    true
-}
 
-/// The links once step `s` is decomposed, where equal ones are one, or `None` where they would be more than 256.
-pub fn links_after(target: &Plan, m: &Method, first: u8, s: u8) -> Option<Fixed<Link, 256>>
-    requires { first ≤ 64 }
-    ensures { MatchOption result (256 < length (with_links [] (map (passed_down first s (method m.now)) (items target.now.links) ++ map (renumbered first) (method m.now).links))) (λ f. items f ≡ with_links [] (map (passed_down first s (method m.now)) (items target.now.links) ++ map (renumbered first) (method m.now).links)) }
-{
-    let mut links = Fixed::new(Link {
-        producer: 0,
-        add: 0,
-        consumer: 0,
-        need: 0,
-    });
-    if !join_passed(&mut links, target.links(), m, first, s) {
-        return None;
+    /// A link of the method.
+    fn renumbered(&self, link: Link) -> Link
+        requires producer { link.producer < 8 }
+        requires consumer { link.consumer < 8 }
+        ensures { result ≡ renumbered (first self.now) link }
+    {
+        Link {
+            producer: self.first() + link.producer,
+            add: link.add,
+            consumer: self.first() + link.consumer,
+            need: link.need,
+        }
     }
-    if !join_renumbered(&mut links, m.links(), first) {
-        return None;
+
+    /// The links once the step has left, where equal ones are one. They may be more than 256.
+    pub fn links_after(&self) -> Result<Fixed<Link, 256>, Full>
+        ensures { Joined result (with_links [] (map (passed_down (first self.now) self.now.leaving (method self.now.method.now)) (items self.now.target.now.links) ++ map (renumbered (first self.now)) (method self.now.method.now).links)) }
+    {
+        let passed = self
+            .target
+            .links()
+            .iter()
+            .map(|link| self.passed_down(*link));
+        let own = self
+            .method
+            .links()
+            .iter()
+            .map(|link| self.renumbered(*link));
+        joined(passed.chain(own))
     }
-    Some(links)
 }

@@ -1,58 +1,58 @@
 //! The steps and links of a plan once a step is decomposed.
-ghost use Rattle.std.specs.Prelude.{◌≡◌, ◌+◌, ◌≤◌, true, ◌++◌, map, length, Some, None, MatchOption, slice_set};
+ghost use Rattle.std.specs.Prelude.{◌≡◌, ◌+◌, ◌<◌, ◌≤◌, true, ◌++◌, is_ok, map, length, Some, None, MatchResult, nat_le, slice_set};
 ghost use Rattle.fixed.specs.Items.{items};
 ghost use Rattle.methods.specs.Meaning.{method};
 ghost use Rattle.order.specs.Puts.{nothing};
-ghost use Rattle.plan.specs.Meaning.{plan};
+ghost use Rattle.plan.specs.Meaning.{given_steps, plan};
 ghost use Rattle.semantics.specs.PlanLines.{too_many};
+ghost use Rattle.decomposing.specs.Exchanges.{old_steps};
 ghost use Rattle.decomposing.specs.Revising.{Revises};
 
-use crate::passing::links_after;
-use fixed::Fixed;
-use methods::Method;
-use plan::Plan;
+use crate::exchange::Exchange;
+use fixed::{Fixed, Full};
+use plan::Steps;
 use semantics::Link;
 
 /// The steps and the links of a plan.
 #[derive(Drop)]
 pub struct Revised {
-    pub(super) steps: Fixed<Option<u8>, 64>,
+    pub(super) steps: Steps,
     pub(super) links: Fixed<Link, 256>,
 }
 
-/// Gives the method's steps the next numbers, in their own order.
-fn append_steps(steps: &mut Fixed<Option<u8>, 64>, m: &Method)
-    requires { length (items steps.old) + length (method m.now).steps ≤ 64 }
-    ensures { items steps.new ≡ items steps.old ++ map Some (method m.now).steps }
+/// Gives steps of these tasks the next numbers, in their order, until one would be the 65th.
+fn append(steps: &mut Steps, tasks: &[u8]) -> Result<(), Full>
+    ensures room { is_ok result ≡ nat_le (length (given_steps steps.old) + length tasks.now) 64 }
+    ensures after { is_ok result ≡ true → given_steps steps.new ≡ given_steps steps.old ++ map Some tasks.now }
 {
-    for a in 0..m.count_steps() {
-        let _ = steps.push(m.task_of_step(a));
+    for task in tasks {
+        steps.push(*task)?;
     }
+    Ok(())
 }
 
-/// The steps once step `s` has left and those of the method have come.
-fn steps_after(target: &Plan, m: &Method, s: u8) -> Fixed<Option<u8>, 64>
-    requires { length (items target.now.steps) + length (method m.now).steps ≤ 64 }
-    ensures { items result ≡ slice_set (items target.now.steps) s None ++ map Some (method m.now).steps }
-{
-    let mut steps = target.steps();
-    steps.change(s as usize, None);
-    append_steps(&mut steps, m);
-    steps
-}
-
-/// The steps and links once step `s` is decomposed, or `None` where there would be too many for so many step numbers.
-pub fn revise(target: &Plan, m: &Method, s: u8, numbers: u8) -> Option<Revised>
-    requires { numbers ≤ 64 }
-    ensures { MatchOption result (too_many numbers (plan nothing target.now) s (Some (method m.now)) ≡ true) (λ x. Revises numbers (plan nothing target.now) s (method m.now) (items x.steps) (items x.links)) }
-{
-    let first = target.given();
-    if first + m.count_steps() > numbers {
-        return None;
+impl Exchange<'_> {
+    /// The steps once one has left and those of the method have come. They may be more than 64.
+    fn steps_after(&self) -> Result<Steps, Full>
+        ensures { MatchResult result (λ steps. given_steps steps ≡ slice_set (old_steps self.now) self.now.leaving None ++ map Some (method self.now.method.now).steps) (λ _. 64 < length (old_steps self.now) + length (method self.now.method.now).steps) }
+    {
+        let mut steps = *self.target.steps();
+        steps.leave(self.leaving);
+        append(&mut steps, self.method.steps())?;
+        Ok(steps)
     }
-    let links = links_after(target, m, first, s)?;
-    Some(Revised {
-        steps: steps_after(target, m, s),
-        links,
-    })
+
+    /// The steps and links once the step has left. They may be too many, for so many step numbers.
+    pub fn revise(&self, numbers: u8) -> Result<Revised, Full>
+        requires { numbers ≤ 64 }
+        ensures { MatchResult result (λ x. Revises numbers (plan nothing self.now.target.now) self.now.leaving (method self.now.method.now) (given_steps x.steps) (items x.links)) (λ _. too_many numbers (plan nothing self.now.target.now) self.now.leaving (Some (method self.now.method.now)) ≡ true) }
+    {
+        if self.numbers().end > numbers {
+            return Err(Full);
+        }
+        Ok(Revised {
+            steps: self.steps_after()?,
+            links: self.links_after()?,
+        })
+    }
 }
