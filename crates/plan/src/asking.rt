@@ -13,6 +13,8 @@ use domain::{Task, Tasks};
 use fixed::Fixed;
 use semantics::Link;
 
+// A plan answers for its steps, so that a caller need not reach into it.
+
 impl Plan {
     /// How many step numbers were given.
     pub fn given(&self) -> u8
