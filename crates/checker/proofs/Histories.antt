@@ -3,7 +3,7 @@ use Rattle.std.proofs.Common.{◌≡◌, ℕ, zero, suc, ◌<◌, ◌≤◌, Boo
 use Rattle.line.specs.Parse.{parsed}
 use Rattle.line.specs.declared.command.Command.{Command}
 use Rattle.line.specs.declared.command.Refusal.{Refusal}
-use Rattle.page.specs.Answers.{row, unread}
+use Rattle.page.specs.Answers.{refusal_row, unread}
 use Rattle.page.specs.declared.answer.Row.{Row}
 use Rattle.semantics.specs.Causes.{told}
 use Rattle.semantics.specs.Orders.{In}
@@ -61,7 +61,7 @@ module _ (capacity : ℕ) (two : 2 ≤ capacity) (few : capacity ≤ 64) (past :
       = sym (told_state st c w.code) ∙ ap (λ (v : Row). state_for st (Ok c) v.code) answers ∙ sym (ap (λ (r : Result Command Refusal). state_for st r (answered capacity past line).code) is) in
       kept w after answers (subst (λ (s : State). Means after s) now o.means)
 
-  pub refusal_kept : (e : Refusal) (w : Row) → parsed line ≡ Err e → w ≡ row (unread e) → Kept capacity past line w h
+  pub refusal_kept : (e : Refusal) (w : Row) → parsed line ≡ Err e → w ≡ refusal_row (unread e) → Kept capacity past line w h
   refusal_kept e w is a =
       let answers : w ≡ answered capacity past line = a ∙ sym (ap (λ (r : Result Command Refusal). row_for capacity st r) is) in
       let same : st ≡ state capacity (line ∷ past) = sym (ap (λ (r : Result Command Refusal). state_for st r (answered capacity past line).code) is) in

@@ -11,10 +11,10 @@ use Rattle.semantics.specs.States.{next, State}
 use Rattle.semantics.specs.Tasks.{Task}
 use Rattle.semantics.specs.declared.phase.Phase.{Phase}
 use Rattle.semantics.specs.declared.phase.Phase.TheVariants.{Running}
-use Rattle.told_domain.specs.Domains.{Parts}
+use Rattle.told_domain.specs.Domains.{Parts, state_with}
 use Rattle.plan.specs.Following.{Follows}
 use Rattle.plan.specs.declared.progress.Progress.{Progress}
-use Rattle.checker.specs.Meaning.{Held, state_with}
+use Rattle.checker.specs.Meaning.{Held}
 use Rattle.checker.specs.Outcomes.{Outcome, Reached}
 
 -- every command but R

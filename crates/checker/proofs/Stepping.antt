@@ -2,7 +2,7 @@
 use Rattle.std.proofs.Common.{◌≡◌, ℕ, Bool, true, false, cond, eqb, ◌⊎◌, List, [], ◌∷◌, map, length, Some, Option, sym, refl, ap, ◌∙◌, inl, inr, ⊎_elim}
 use Rattle.std.proofs.lemmas.List.{length-map}
 use Rattle.line.specs.declared.command.Command.{Command}
-use Rattle.line.specs.declared.command.Command.TheVariants.{NewStep, PutLink, PutOrder}
+use Rattle.line.specs.declared.command.Command.TheVariants.{AppendAdd, AppendDelete, AppendNeed, CloseMethod, Decompose, EndPhase, Judge, NewCompound, NewPrimitive, NewStep, OpenMethod, PutLink, PutOrder, RouteAdd, RouteNeed, Take}
 use Rattle.page.specs.declared.answer.Row.{Row}
 use Rattle.semantics.specs.Causes.{Cause, first_of, told}
 use Rattle.semantics.specs.Methods.{link_of, Method, order_of, step_of}
@@ -14,9 +14,9 @@ use Rattle.semantics.specs.States.{next, plan_link, plan_order, plan_step, State
 use Rattle.semantics.specs.declared.link.Link.{Link}
 use Rattle.semantics.specs.declared.phase.Phase.{Phase}
 use Rattle.semantics.specs.declared.phase.Phase.TheVariants.{Initial, MethodOpen, Methods, Refine, Running, Tasks}
-use Rattle.told_domain.specs.Domains.{in_phase, Parts, with_draft}
+use Rattle.told_domain.specs.Domains.{in_phase, of_domain, Parts, state_with, Tells, with_draft}
 use Rattle.checker.proofs.Settling.{settled, Still}
-use Rattle.checker.specs.Meaning.{Held, state_with}
+use Rattle.checker.specs.Meaning.{Held}
 use Rattle.checker.specs.Outcomes.{Obeys, Reached}
 
 -- told of what parts of a state are made of
@@ -73,14 +73,9 @@ module _ (capacity : ℕ) (h : Held) (w : Row) where
       let l = lines taken reached in
       settled capacity c w h D r taken still follows reached l.0 (told_plan w (next (st taken) c) (st taken) D P q taken l.1 refl ∙ ap (λ (p : planned.Plan). state_with D p taken) (sym l.2))
 
-  -- A line that may change the domain.
-  pub by_domain : (c : Command) → Still c → (e d : Parts)
-      → ((taken : List ℕ) → w ≡ verdict capacity (st taken) c)
-      → ((taken : List ℕ) → next (st taken) c ≡ state_with e P taken)
-      → d ≡ told w e D
-      → Obeys capacity c w h (record { domain = d; plan = P; progress = h.progress })
-  by_domain c still e d row new is taken follows reached =
-      settled capacity c w h d P taken still follows reached (row taken) (told_domain w (next (st taken) c) (st taken) D e P taken (new taken) refl ∙ ap (λ (x : Parts). state_with x P taken) (sym is))
+  -- A line that the domain carries out.
+  pub by_domain : (c : Command) → Still c → (d : Parts) → Tells D c w d → Obeys capacity c w h (record { domain = d; plan = P; progress = h.progress })
+  by_domain c still d t taken follows reached = settled capacity c w h d P taken still follows reached (t.answers capacity P taken) (t.leaves P taken)
 
   -- A line of the open method, told in a phase in which the plan does not take it.
   draft_after : (ph : Phase) (rs : List Cause) (n : ℕ) (m : Method) (N : State) (taken : List ℕ) → w ≡ first_of ((5, outside ph (MethodOpen ∷ [])) ∷ rs) n
@@ -173,3 +168,23 @@ module _ (capacity : ℕ) (h : Held) (w : Row) where
       → w ≡ first_of ((5, outside D.phase (MethodOpen ∷ [])) ∷ link_causes D.tasks (map Some D.draft.steps) D.draft.links D.draft.before 16 l) 0 → d ≡ told w (with_draft (link_of D.tasks D.draft l) D) D
       → Obeys capacity (PutLink l.producer l.add l.consumer l.need) w h (record { domain = d; plan = P; progress = h.progress })
   draft_link_line l d n = by_draft (PutLink l.producer l.add l.consumer l.need) tt (link_causes D.tasks (map Some D.draft.steps) D.draft.links D.draft.before 16 l) 0 (link_of D.tasks D.draft l) d (λ taken. draft_link l taken D.phase n) (λ taken. refl)
+
+-- a command that is none of the plan's letters is the domain's in every phase, and takes no step
+pub of_the_domain : (ph : Phase) (c : Command) → ((t : ℕ) → c ≡ NewStep t → ⊥) → ((a b : ℕ) → c ≡ PutOrder a b → ⊥) → ((a i b j : ℕ) → c ≡ PutLink a i b j → ⊥)
+    → ((s m : ℕ) → c ≡ Decompose s m → ⊥) → (c ≡ Judge → ⊥) → ((s : ℕ) → c ≡ Take s → ⊥) → (of_domain ph c ≡ true) × Still c
+of_the_domain ph NewPrimitive n o l x j r = (refl, tt)
+of_the_domain ph NewCompound n o l x j r = (refl, tt)
+of_the_domain ph (AppendNeed t f) n o l x j r = (refl, tt)
+of_the_domain ph (AppendAdd t f) n o l x j r = (refl, tt)
+of_the_domain ph (AppendDelete t f) n o l x j r = (refl, tt)
+of_the_domain ph EndPhase n o l x j r = (refl, tt)
+of_the_domain ph (OpenMethod t) n o l x j r = (refl, tt)
+of_the_domain ph (NewStep t) n o l x j r = absurd (n t refl)
+of_the_domain ph (PutOrder a b) n o l x j r = absurd (o a b refl)
+of_the_domain ph (PutLink a i b k) n o l x j r = absurd (l a i b k refl)
+of_the_domain ph (RouteNeed i s k) n o l x j r = (refl, tt)
+of_the_domain ph (RouteAdd i s k) n o l x j r = (refl, tt)
+of_the_domain ph CloseMethod n o l x j r = (refl, tt)
+of_the_domain ph (Decompose s m) n o l x j r = absurd (x s m refl)
+of_the_domain ph Judge n o l x j r = absurd (j refl)
+of_the_domain ph (Take s) n o l x j r = absurd (r s refl)

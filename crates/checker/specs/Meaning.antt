@@ -1,9 +1,9 @@
 -- What a checker stands for, in the words of the rules.
-use Rattle.std.specs.Prelude.{◌≡◌, ℕ, List}
+use Rattle.std.specs.Prelude.{◌≡◌}
 use Rattle.semantics.specs.Orders.{Relation}
 use Rattle.semantics.specs.Plans as planned
 use Rattle.semantics.specs.States.{State}
-use Rattle.told_domain.specs.Domains.{Parts, parts}
+use Rattle.told_domain.specs.Domains.{Parts, parts, state_with}
 use Rattle.plan.specs.Following.{Follows}
 use Rattle.plan.specs.Meaning.{plan}
 use Rattle.plan.specs.declared.progress.Progress.{Progress}
@@ -17,10 +17,6 @@ pub record Held : Type 0 where
 
 abbrev pub held : {K : Type 0} → Relation → Checker K → Held
 held before c = record { domain = parts c.domain; plan = plan before c.plan; progress = c.progress }
-
--- the state with this domain and plan in which these steps are taken, the latest first
-abbrev pub state_with : Parts → planned.Plan → List ℕ → State
-state_with d p taken = record { phase = d.phase; tasks = d.tasks; methods = d.methods; draft = d.draft; plan = p; taken = taken }
 
 -- The checker stands for a state of the rules: its domain and plan are the state's, and its masks have the steps that are taken
 -- there and the facts after them.

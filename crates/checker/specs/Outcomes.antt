@@ -8,7 +8,8 @@ use Rattle.semantics.specs.States.{next, State}
 use Rattle.semantics.specs.declared.phase.Phase.TheVariants.{Running}
 use Rattle.plan.specs.Following.{Follows}
 use Rattle.plan.specs.Meaning.{Suits}
-use Rattle.checker.specs.Meaning.{Held, Means, state_with}
+use Rattle.told_domain.specs.Domains.{state_with}
+use Rattle.checker.specs.Meaning.{Held, Means}
 
 -- What every state that lines lead to has: a keeper for so many steps can order its plan, and no step is taken before the plan is
 -- accepted.

@@ -18,7 +18,7 @@ use told_domain::Domain;
 fn judged(domain: &mut Domain, answer: Answer)
     ensures { parts domain.new ≡ told (row answer) (in_phase (started (parts domain.old).phase) (parts domain.old)) (parts domain.old) }
 {
-    if answer.is_accepted() {
+    if answer.is_ok() {
         domain.start_running();
     }
 }

@@ -7,7 +7,7 @@ ghost use Rattle.checker.specs.Runs.{AnsweredOn, Runs};
 
 use crate::Checker;
 use order::Keeper;
-use page::{has_room, line_at};
+use page::{has_room, line_at, write};
 
 /// How far a run came.
 #[derive(Clone, Copy, PartialEq, Eq, Debug)]
@@ -26,7 +26,7 @@ impl<K: Keeper> Checker<K> {
         ensures told { (past : History) → Means (held (K.before self.old.keeper) self.old) (state K.CAPACITY past) → AnsweredOn K.CAPACITY past line.now page.old at result page.new (held (K.before self.new.keeper) self.new) }
     {
         let answer = self.tell(line);
-        answer.write(page, at).unwrap_or(at)
+        write(answer, page, at).unwrap_or(at)
     }
 
     /// Tells the lines of a text one after the other and writes their rows, until no line is left or fewer than 28 bytes of the

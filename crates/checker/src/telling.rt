@@ -7,7 +7,6 @@ ghost use Rattle.checker.specs.Outcomes.{Obeys};
 ghost use Rattle.checker.specs.Promises.{Kept};
 
 use crate::Checker;
-use domain::Kind;
 use line::{Command, parse};
 use order::Keeper;
 use page::Answer;
@@ -36,24 +35,14 @@ impl<K: Keeper> Checker<K> {
     pub fn tell(&mut self, line: &[u8]) -> Answer
         ensures { (told : History) → Means (held (K.before self.old.keeper) self.old) (state K.CAPACITY told) → Kept K.CAPACITY told line.now (row result) (held (K.before self.new.keeper) self.new) }
     {
-        match parse(line) {
-            Ok(command) => self.carry_out(command),
-            Err(refusal) => Answer::from(refusal),
-        }
+        self.carry_out(parse(line)?)
     }
 
-    /// Carries a command out.
+    /// Carries a command out: the plan's in their phases, and any other as the domain does.
     fn carry_out(&mut self, command: Command) -> Answer
         ensures { Obeys K.CAPACITY command (row result) (held (K.before self.old.keeper) self.old) (held (K.before self.new.keeper) self.new) }
     {
         match command {
-            Command::NewPrimitive => self.domain.new_task(Kind::Primitive),
-            Command::NewCompound => self.domain.new_task(Kind::Compound),
-            Command::AppendNeed { task, fact } => self.domain.append_need(task, fact),
-            Command::AppendAdd { task, fact } => self.domain.append_add(task, fact),
-            Command::AppendDelete { task, fact } => self.domain.append_delete(task, fact),
-            Command::EndPhase => self.domain.end_phase(),
-            Command::OpenMethod { task } => self.domain.open_method(task),
             Command::NewStep { task } => self.new_step(task),
             Command::PutOrder { earlier, later } => self.put_order(earlier, later),
             Command::PutLink {
@@ -67,12 +56,10 @@ impl<K: Keeper> Checker<K> {
                 consumer,
                 need,
             }),
-            Command::RouteNeed { need, step, label } => self.domain.route_need(need, step, label),
-            Command::RouteAdd { add, step, label } => self.domain.route_add(add, step, label),
-            Command::CloseMethod => self.domain.close_method(),
             Command::Decompose { step, method } => self.decompose(step, method),
             Command::Judge => self.judge(),
             Command::Take { step } => self.take(step),
+            _ => self.domain.carry_out(command),
         }
     }
 }

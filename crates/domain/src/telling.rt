@@ -29,6 +29,8 @@ impl Task {
         }
     }
 
+    // A match picks the list: a task has three lists with names, and no table of them by role.
+
     /// Ends the list of a role with a fact and answers its label. A full list stays as it is.
     fn push(&mut self, role: Role, fact: u8) -> Result<u8, Full>
         requires { fact < 64 }

@@ -1,4 +1,3 @@
 pub mod Labels
 pub mod Ends
 pub mod Steps
-pub mod SmallSteps

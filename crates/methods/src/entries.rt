@@ -10,6 +10,7 @@ pub struct Entry {
     pub label: u8,
 }
 
+// An array with a place for each label, since the libraries use no heap and a label is a small number.
 /// Where the needs or the adds of a method's task go, by their labels: for each at most one entry.
 #[derive(Clone, Copy)]
 pub struct Entries {

@@ -1,6 +1,6 @@
 //! Methods, told line by line: their steps, links, order and entries.
 //!
-//! Nothing here allocates, and no public function asks anything of its caller.
+//! Nothing here allocates, and no public function of a method asks anything of its caller.
 #![tactic(auto)]
 
 mod asking;

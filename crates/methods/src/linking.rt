@@ -19,7 +19,8 @@ use page::{Answer, Refusal, Side};
 use semantics::Link;
 
 /// Lets a link join two steps. Where both are primitive, the first is before the second from then on.
-// The plan's function of this name is over a keeper; a method's order lies in none.
+// The plan's function of this name is over a keeper, and the project keeps the order of a method out of keepers. What is alike is in links:
+// a trait over methods and plans would have eight members for two types.
 fn arrange(order: &mut SmallOrder, p: u8, q: u8, ordered: bool) -> Result<(), Refusal>
     requires producer { p < 8 }
     requires consumer { q < 8 }

@@ -14,7 +14,8 @@ use domain::{FactList, Task, Tasks};
 use page::Side;
 
 /// The facts on that side of a task, which entries and links name by their labels.
-pub fn labelled(known: &Task, side: Side) -> &FactList
+// A match picks the field, here and below: a task's lists and a method's entries are few, and have names.
+pub(super) fn labelled(known: &Task, side: Side) -> &FactList
     ensures { facts result.now ≡ facts_on side (Some (task known.now)) }
 {
     match side {

@@ -102,6 +102,8 @@ impl PairList {
         }
     }
 
+    // Three loops over the pairs, and no function that takes a closure: what each puts is its contract, and a closure would say it again.
+
     /// Puts each stored pair that does not contain `a` into `rest`.
     fn keep_others(&self, rest: &mut PairList, a: u8)
         ensures { follows_from rest.new ≡ put_some 32 (follows_from rest.old) (others a (items self.now.pairs)) }

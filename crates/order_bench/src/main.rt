@@ -18,7 +18,7 @@ enum Shape {
     Full,
 }
 
-// An enum and not a closure for each shape: its count and its pairs stand side by side, and the report names it.
+// An enum and no closures: a shape is a count and its pairs, and each is read off one table.
 
 /// How many pairs are put for an order of the shape.
 fn puts_of(shape: Shape) -> u32

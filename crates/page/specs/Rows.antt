@@ -1,5 +1,5 @@
 -- The text of a row, and a page with a text on it.
-use Rattle.std.specs.Prelude.{ℕ, ◌+◌, ◌-◌, Bool, List, [], ◌∷◌, ◌++◌, length, take, drop, decimal, nat_le}
+use Rattle.std.specs.Prelude.{◌≡◌, ℕ, ◌+◌, ◌-◌, Bool, List, [], ◌∷◌, ◌++◌, length, take, drop, decimal, nat_le}
 use Rattle.page.specs.declared.answer.Row.{Row}
 
 -- a number in decimal, and the byte that stands after it
@@ -13,6 +13,10 @@ numbers_text r = decimal r.code ++ (44 ∷ (decimal r.a ++ (44 ∷ (decimal r.b 
 -- code,a,b,c in decimal, with commas (44) between them and CR LF (13 10) at the end
 abbrev pub row_text : Row → List ℕ
 row_text r = number_text r.code 44 ++ (number_text r.a 44 ++ (number_text r.b 44 ++ (number_text r.c 13 ++ (10 ∷ []))))
+
+-- a row's text is its numbers and the line break
+abbrev pub RowsEndInBreaks : Type 0
+RowsEndInBreaks = (r : Row) → row_text r ≡ numbers_text r ++ (13 ∷ 10 ∷ [])
 
 -- the page with the text from the place on, and no other byte changed
 abbrev pub written : List ℕ → ℕ → List ℕ → List ℕ

@@ -74,7 +74,7 @@ pub enum Side {
 }
 
 /// An answer as numbers: its code, 0 where the line is accepted, and three more. Those that say nothing are 0.
-// Numbers, since a terminal written in C reads them.
+// Numbers and no enum, since a row is what a terminal written in C is given to read.
 #[derive(Clone, Copy, PartialEq, Eq, Debug)]
 pub struct Row {
     pub code: u8,

@@ -10,5 +10,5 @@ mod text;
 
 pub use answer::{Answer, Refusal, Row, Side};
 pub use reading::Lines;
-pub use row::{has_room, write};
+pub use row::{has_room, rows_end_in_breaks, write};
 pub use text::{Line, line_at, lines_are_the_text};

@@ -1,8 +1,8 @@
 //! Answers as rows, and rows on a page.
-ghost use Rattle.std.specs.Prelude.{◌≡◌, ◌+◌, ◌<◌, ◌≤◌, length, if◌then◌else◌, Some, None, MatchOption};
+ghost use Rattle.std.specs.Prelude.{◌≡◌, ◌+◌, ◌<◌, ◌≤◌, length, if◌then◌else◌, is_ok, Some, None, MatchOption, ◌==◌};
 ghost use Rattle.page.specs.Answers.{as_row, refusal_row, row, side_number, unread};
 ghost use Rattle.page.specs.declared.answer.Refusal.TheVariants as refused;
-ghost use Rattle.page.specs.Rows.{fits, number_text, numbers_text, row_text, written};
+ghost use Rattle.page.specs.Rows.{RowsEndInBreaks, fits, number_text, numbers_text, row_text, written};
 
 use crate::answer::{Answer, Refusal, Row, Side};
 use fixed::Full;
@@ -33,9 +33,9 @@ pub fn write(answer: Answer, page: &mut [u8], at: usize) -> Option<usize>
     Some(put_row(page, at, Row::from(answer)))
 }
 
-/// The row that says an answer. Its text is at most 28 bytes long.
+/// The row that says an answer. Its text is at most 28 bytes long, and its code is 0 exactly where the answer is no refusal.
 impl From<Answer> for Row {
-    ghost from_gives = { λ answer r. (r ≡ row answer) × (length (row_text r) ≤ 28) };
+    ghost from_gives = { λ answer r. (r ≡ row answer) × (length (row_text r) ≤ 28) × ((r.code == 0) ≡ is_ok answer) };
 
     fn from(answer: Answer) -> Row {
         match answer {
@@ -148,7 +148,7 @@ impl Row {
     }
 }
 
-// Page and place stay two parameters: the terminal in C lends a page, and how much of it is written is part of what it is answered.
+// Page and place are two parameters here: a terminal in C lends the page, and how much of it is written is part of its answer.
 
 /// Writes a text, and answers the place after it.
 fn put(page: &mut [u8], at: usize, text: &[u8]) -> usize
@@ -186,3 +186,8 @@ fn put_row(page: &mut [u8], at: usize, row: Row) -> usize
     page[c] = b'\n';
     c + 1
 }
+
+/// The text of a row is what the row prints, and the line break.
+pub fn rows_end_in_breaks()
+    ensures { RowsEndInBreaks }
+{}

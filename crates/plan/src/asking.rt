@@ -12,6 +12,8 @@ use crate::{Links, Plan, Steps};
 use domain::{Task, Tasks};
 use semantics::Link;
 
+// A plan answers for its steps, so that a caller need not reach into it.
+
 impl Plan {
     /// How many step numbers were given.
     pub fn given(&self) -> u8

@@ -1,6 +1,6 @@
 //! Judging a plan: three criteria, tried in their order. The keeper is only asked.
 //!
-//! The criteria go over steps and needs by their numbers, in loops, since numbers are what they name.
+//! Steps and needs are gone over by loops with their numbers: a form that the project wants in judging.
 ghost use Rattle.std.specs.Prelude.{◌≡◌, length};
 ghost use Rattle.domain.specs.Meaning.{tasks};
 ghost use Rattle.fixed.specs.Items.{items};

@@ -28,7 +28,7 @@ impl Domain {
         }
     }
 
-    /// Whether the domain is in this phase.
+    /// Refuses a line of a letter that only this phase has, where the domain is in another.
     pub(super) fn must_be_in(&self, phase: Phase) -> Result<(), Refusal>
         ensures test { refused result ≡ first_cause ((5, outside self.now.phase (phase ∷ [])) ∷ []) }
         ensures same { is_ok result ≡ true → self.now.phase ≡ phase }

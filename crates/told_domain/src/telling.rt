@@ -1,6 +1,6 @@
 //! What becomes of a command in a domain.
-ghost use Rattle.std.specs.Prelude.{◌≡◌, true};
-ghost use Rattle.page.specs.Answers.{row};
+ghost use Rattle.std.specs.Prelude.{◌≡◌, true, false};
+ghost use Rattle.page.specs.Answers.{as_row, row};
 ghost use Rattle.told_domain.specs.Domains.{of_domain, parts, Tells};
 
 use crate::Domain;
@@ -10,9 +10,10 @@ use page::{Answer, Refusal, Side};
 use semantics::Link;
 
 impl Domain {
-    /// Carries a command out, unless it is the plan's.
+    /// Carries a command out, unless it is the plan's: then it is of the wrong phase here, and nothing changes.
     pub fn carry_out(&mut self, command: Command) -> Answer
-        ensures { of_domain (parts self.old).phase command ≡ true → Tells (parts self.old) command (row result) (parts self.new) }
+        ensures domain { of_domain (parts self.old).phase command ≡ true → Tells (parts self.old) command (row result) (parts self.new) }
+        ensures plan { of_domain (parts self.old).phase command ≡ false → (row result ≡ as_row 5 0 0 0) × (parts self.new ≡ parts self.old) }
     {
         match command {
             Command::NewPrimitive => self.new_task(Kind::Primitive),

@@ -12,14 +12,14 @@ use Rattle.visit.proofs.session.Session.carry_out.Goals as goal
 pub returns-then-is_before_plan-clause-row : goal.returns-then-is_before_plan-clause-row
 returns-then-is_before_plan-clause-row c =
     let d = parts c.args.self.now.domain in
-    let told = c.carry_out.ensures (of_domain_before d.phase c.args.command (grind arith)) in
+    let told = c.carry_out.ensures.domain (of_domain_before d.phase c.args.command (grind arith)) in
     let row = told.answers 64 opening_plan [] in
     grind arith
 
 pub returns-then-is_before_plan-clause-after : goal.returns-then-is_before_plan-clause-after
 returns-then-is_before_plan-clause-after c =
     let d = parts c.args.self.now.domain in
-    let told = c.carry_out.ensures (of_domain_before d.phase c.args.command (grind arith)) in
+    let told = c.carry_out.ensures.domain (of_domain_before d.phase c.args.command (grind arith)) in
     let is = told.answers 64 opening_plan [] in
     let w = row c.carry_out.result in
     let after = domain_of (next (state d) c.args.command) in
