@@ -1,4 +1,5 @@
 mod Lowest
+mod Mapped
 mod Ups
 pub mod Present
 mod Sums

@@ -1,6 +1,6 @@
 -- The parts of the searches of judging: one turn of a loop, or what is found at one step. The rules themselves are in semantics,
 -- and each public function is held to those.
-use Rattle.std.specs.Prelude.{ℕ, Bool, cond, not, List, length, Some, None, Option, is_some}
+use Rattle.std.specs.Prelude.{ℕ, Bool, not, List, length, Some, None, Option, is_some}
 use Rattle.std.specs.List.{slice_get}
 use Rattle.semantics.specs.Causes.{first_such}
 use Rattle.semantics.specs.Decomposing.{upfrom}
@@ -22,10 +22,6 @@ at_step os find s = if_present (slice_get os s) (find s)
 -- whether step s is not primitive, among these steps
 abbrev pub is_compound : List Task → List (Option ℕ) → ℕ → Bool
 is_compound ts os s = not (is_primitive (at_task ts (slice_get os s)))
-
--- a step that is compound
-abbrev pub compound : List Task → List (Option ℕ) → ℕ → Option ℕ
-compound ts os s = cond (is_compound ts os s) (Some s) None
 
 -- whether no link goes to need j of step s
 abbrev pub no_producer : List Link → ℕ → ℕ → Bool

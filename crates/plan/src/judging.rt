@@ -1,6 +1,6 @@
 //! Judging a plan: three criteria, tried in their order. The keeper is only asked.
 //!
-//! Steps and needs are gone over by loops with their numbers: a form that the project wants in judging.
+//! Needs, and the steps that have them, are gone over by loops with their numbers: a form that the project wants in judging.
 ghost use Rattle.std.specs.Prelude.{◌≡◌, length};
 ghost use Rattle.domain.specs.Meaning.{tasks};
 ghost use Rattle.fixed.specs.Items.{items};
@@ -11,7 +11,7 @@ ghost use Rattle.semantics.specs.Plans.{at_task, present_from, steps_of};
 ghost use Rattle.semantics.specs.Tasks.{adds_of};
 ghost use Rattle.std.specs.List.{slice_get};
 ghost use Rattle.plan.specs.Meaning.{given_steps, plan};
-ghost use Rattle.plan.specs.Turns.{at_step, compound, is_compound, paired, threatened, unlinked, unlinked_of};
+ghost use Rattle.plan.specs.Turns.{at_step, is_compound, paired, threatened, unlinked, unlinked_of};
 
 use crate::Plan;
 use domain::Tasks;
@@ -20,23 +20,11 @@ use page::{Answer, Refusal};
 use semantics::Link;
 
 impl Plan {
-    /// The step itself, if it is present and compound.
-    fn compound_at(&self, known: &Tasks, s: u8) -> Option<u8>
-        ensures { result ≡ at_step (given_steps self.now.steps) (compound (tasks known.now) (given_steps self.now.steps)) s }
-    {
-        (self.is_step(s) && !self.steps.is_primitive(known, s)).then_some(s)
-    }
-
     /// The lowest compound step.
     fn first_compound(&self, known: &Tasks) -> Option<u8>
         ensures { result ≡ first_such (is_compound (tasks known.now) (given_steps self.now.steps)) (present_from 0 (given_steps self.now.steps)) }
     {
-        for s in 0..self.given() {
-            if let Some(found) = self.compound_at(known, s) {
-                return Some(found);
-            }
-        }
-        None
+        (0..self.given()).find(|s| self.is_step(*s) && !self.steps.is_primitive(known, *s))
     }
 
     /// The lowest of the first `count` needs of step `s` that no link goes to.
@@ -118,12 +106,7 @@ impl Plan {
     fn first_threat<K: Keeper>(&self, keeper: &K, known: &Tasks) -> Option<(u8, Link)>
         ensures { result ≡ first_found (threatened (tasks known.now) (plan (K.before keeper.now) self.now)) (present_from 0 (given_steps self.now.steps)) }
     {
-        for s in 0..self.given() {
-            if let Some(found) = self.threat_at(keeper, known, s) {
-                return Some(found);
-            }
-        }
-        None
+        (0..self.given()).find_map(|s| self.threat_at(keeper, known, s))
     }
 
     /// Judges the plan: accepted with the count of its steps, or the first criterion that fails and its lowest spot.
