@@ -4,7 +4,7 @@ use Rattle.semantics.specs.Plans.{has_link, Linked, with_link, with_links}
 use Rattle.semantics.specs.declared.link.Link.{Link}
 use Rattle.methods.specs.Ends.{SmallEnds}
 use Rattle.links.specs.Parts.{is_full}
-use Rattle.decomposing.proofs.Handing.{Left, left_then}
+use Rattle.order.proofs.Handing.{Left, left_then}
 
 -- a full list would be longer with the link
 past_full : (ls : List Link) (l : Link) → is_full 256 ls l ≡ true → 256 < length (with_link ls l)

@@ -1,4 +1,3 @@
-mod Handing
 mod Tries
 mod Brings
 mod Joins

@@ -6,8 +6,7 @@ ghost use Rattle.decomposing.specs.Exchanges.{beside, facing_pair, inherited, nu
 ghost use Rattle.decomposing.specs.Trying.{Tried};
 
 use crate::exchange::{Exchange, Side};
-use crate::putting::put_each;
-use order::{Keeper, Refused};
+use order::{Keeper, Refused, put_each};
 
 impl Side {
     /// A step on that side of another, and that other, as the earlier and the later one.

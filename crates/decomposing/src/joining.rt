@@ -8,9 +8,8 @@ ghost use Rattle.decomposing.specs.Exchanges.{first};
 ghost use Rattle.decomposing.specs.Trying.{Tried};
 
 use crate::exchange::Exchange;
-use crate::putting::put_each;
 use domain::Tasks;
-use order::{Keeper, Refused};
+use order::{Keeper, Refused, put_each};
 use plan::Steps;
 use semantics::Link;
 

@@ -10,7 +10,6 @@ mod inheriting;
 mod joining;
 mod numbering;
 mod passing;
-mod putting;
 mod revising;
 
 pub use decomposing::decompose;

@@ -5,4 +5,5 @@ pub mod Pigeons
 pub mod Room
 pub mod Pushes
 pub mod Drops
+pub mod Handing
 pub mod Tries

@@ -1,10 +1,11 @@
 -- Pairs put one by one, with and without a capacity, and keepers that answer alike.
-use Rattle.std.proofs.Common.{◌≡◌, ℕ, ◌+◌, ◌<◌, Bool, true, false, cond, not, ◌&&◌, ◌||◌, eqb, List, [], ◌∷◌, length, get_or, drop, is_ok, is_err, Some, None, Ok, Err, Result, sym, refl, ap, ◌∙◌, subst, arith}
+use Rattle.std.proofs.Common.{◌≡◌, ℕ, ◌+◌, ◌<◌, Bool, true, false, cond, not, ◌&&◌, ◌||◌, eqb, List, [], ◌∷◌, length, get_or, drop, is_ok, is_err, Some, None, Option, Ok, Err, Result, sym, refl, ap, ◌∙◌, subst, arith}
 use mathlib.Core.Bool.{beq}
 use Rattle.std.proofs.lemmas.List.{at_drop_more}
-use Rattle.std.proofs.lemmas.Bool.{cond-false, false≢true}
+use Rattle.std.proofs.lemmas.Bool.{false≢true}
 use Rattle.std.proofs.lemmas.Bool.Decides.{nat_tests}
 use Rattle.order.specs.declared.keeper.Refused.{Refused}
+use Rattle.order.proofs.Handing.{Left, left_then}
 use Rattle.order.specs.Operations.{answered, LowPut, LowPuts, same_answers}
 use Rattle.order.specs.Puts.{can_put, Low, put_each}
 use Rattle.order.specs.declared.operation.Operation.{Operation}
@@ -35,18 +36,32 @@ each_tries n R (p ∷ ps) l = by (eqb p.0 p.1 || R p.1 p.0) (can_put n R p.0 p.1
 pub all_tries : (n : ℕ) (R S : Relation) (ok : Bool) (ps : List (ℕ × ℕ)) → (ok, S) ≡ put_each n R ps → Low n ps → cond ok (Some S) None ≡ try_all (Some R) ps
 all_tries n R S ok ps e l = ap (λ (q : Bool × Relation). cond q.0 (Some q.1) None) e ∙ each_tries n R ps l
 
--- one turn over the pairs
-module _ (n : ℕ) (R S : Relation) (ps : List (ℕ × ℕ)) (i : ℕ) (l : i < length ps) (whole : Bool × Relation) (inv : put_each n R (drop i ps) ≡ whole) where
-  opened : cond (can_put n R (get_or ps i (0, 0)).0 (get_or ps i (0, 0)).1) (put_each n (put R (get_or ps i (0, 0)).0 (get_or ps i (0, 0)).1) (drop (i + 1) ps)) (false, R) ≡ whole
-  opened = sym (at_drop_more (put_each n R) ps i (0, 0) l) ∙ inv
+module _ {S : Type 0} (steps : S → Option (ℕ × ℕ) → S → Type 0) (n : ℕ) (s t : S) (R : Relation) (all : Bool × Relation) where
+  -- a turn over the pairs: the pair is put
+  pub put_more : (p : ℕ × ℕ) (U : Relation) → Left steps (put_each n) s R all → steps s (Some p) t → can_put n R p.0 p.1 ≡ true → U ≡ put R p.0 p.1 → Left steps (put_each n) t U all
+  put_more p U l h ok is =
+      let next = left_then steps (put_each n) s t R all p l h in
+      record {
+        items = next.items;
+        yields = next.yields;
+        same =
+            ap (λ (V : Relation). put_each n V next.items) is
+            ∙ sym (ap (λ b. cond b (put_each n (put R p.0 p.1) next.items) (false, R)) ok) ∙ next.same;
+      }
 
-  pub put_stop : (ok : Bool) → ok ≡ false → false ≡ can_put n R (get_or ps i (0, 0)).0 (get_or ps i (0, 0)).1 → S ≡ R → (ok, S) ≡ whole
-  put_stop ok f t e =
-      ap (λ (b : Bool). (b, S)) f ∙ ap (λ (Q : Relation). (false, Q)) e ∙ sym (cond-false (can_put n R (get_or ps i (0, 0)).0 (get_or ps i (0, 0)).1) _ _ (sym t)) ∙ opened
+  -- or it is refused
+  pub put_stop : (p : ℕ × ℕ) → Left steps (put_each n) s R all → steps s (Some p) t → can_put n R p.0 p.1 ≡ false → (false, R) ≡ all
+  put_stop p l h bad =
+      let next = left_then steps (put_each n) s t R all p l h in
+      sym (ap (λ b. cond b (put_each n (put R p.0 p.1) next.items) (false, R)) bad) ∙ next.same
 
 pub err_not_ok : (r : Result (Unit {0}) Refused) → is_err r ≡ true → is_ok r ≡ false
 err_not_ok (Ok v) h = absurd (false≢true h)
 err_not_ok (Err e) h = refl
+
+-- pairs of which one is refused, as a call's result says it
+pub refused_as : (n : ℕ) (R S : Relation) (ps : List (ℕ × ℕ)) (r : Result (Unit {0}) Refused) → is_err r ≡ true → ◌≡◌ {A = Bool × Relation} (false, S) (put_each n R ps) → ◌≡◌ {A = Bool × Relation} (is_ok r, S) (put_each n R ps)
+refused_as n R S ps r e t = ap (λ (b : Bool). (b, S)) (err_not_ok r e) ∙ t
 
 alike_same : (b : Bool) → beq b b ≡ true
 alike_same true = refl

@@ -18,5 +18,5 @@ pub use bit_table::BitTable;
 pub use keeper::{Keeper, Refused};
 pub use operation::{Operation, agree, apply};
 pub use pair_list::PairList;
-pub use putting::put_all;
+pub use putting::{put_all, put_each};
 pub use table::Table;

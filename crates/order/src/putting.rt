@@ -1,9 +1,25 @@
 //! Many pairs put into any keeper.
-ghost use Rattle.std.specs.Prelude.{◌≡◌, is_ok, if◌then◌else◌, Some, None};
+ghost use Rattle.std.specs.Prelude.{◌≡◌, ℕ, List, is_ok, if◌then◌else◌, Some, None};
+ghost use Rattle.std.specs.Iterator.{AlwaysYields, IsFinite};
 ghost use Rattle.order.specs.Puts.{Low, put_each};
 ghost use Rattle.semantics.specs.Closures.{try_all};
 
 use crate::keeper::{Keeper, Refused};
+
+/// Puts the pairs that an iterator hands out one by one until one is refused; those before it stay.
+pub fn put_each<K: Keeper, I: Iterator<Item = (u8, u8)> + Drop>(
+    keeper: &mut K,
+    pairs: I,
+) -> Result<(), Refused>
+    requires can { I.can_next pairs }
+    requires ends { IsFinite (I.remaining pairs) }
+    ensures { (ps : List (ℕ × ℕ)) → AlwaysYields I.next_gives (λ p. p) pairs ps → (is_ok result, K.before keeper.new) ≡ put_each K.CAPACITY (K.before keeper.old) ps }
+{
+    for (a, b) in pairs {
+        keeper.put(a, b)?;
+    }
+    Ok(())
+}
 
 /// Puts the pairs one by one until one is refused; those before it stay.
 ///
@@ -13,9 +29,5 @@ pub fn put_all<K: Keeper>(keeper: &mut K, pairs: &[(u8, u8)]) -> Result<(), Refu
     ensures puts { (is_ok result, K.before keeper.new) ≡ put_each K.CAPACITY (K.before keeper.old) pairs.now }
     ensures closes { Low K.CAPACITY pairs.now → (if is_ok result then Some (K.before keeper.new) else None) ≡ try_all (Some (K.before keeper.old)) pairs.now }
 {
-    for pair in pairs {
-        let (a, b) = *pair;
-        keeper.put(a, b)?;
-    }
-    Ok(())
+    put_each(keeper, pairs.iter().copied())
 }

@@ -1,7 +1,7 @@
 use Rattle.std.proofs.Common.{[], rules}
 use Rattle.fixed.specs.Items.{items}
 use Rattle.semantics.specs.Plans.{with_links}
-use Rattle.decomposing.proofs.Handing.{left_none}
+use Rattle.order.proofs.Handing.{left_none}
 use Rattle.decomposing.proofs.Joins.{join_more, join_stop}
 use Rattle.decomposing.proofs.passing.joined.Goals as goal
 

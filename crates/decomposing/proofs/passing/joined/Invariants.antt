@@ -3,7 +3,7 @@ use Rattle.std.specs.Iterator.{AlwaysYields}
 use Rattle.fixed.specs.Items.{items}
 use Rattle.semantics.specs.Plans.{with_links}
 use Rattle.semantics.specs.declared.link.Link.{Link}
-use Rattle.decomposing.proofs.Handing.{Left}
+use Rattle.order.proofs.Handing.{Left}
 use Rattle.decomposing.proofs.passing.joined.Given as goal
 
 abbrev pub invariant-loop-link : goal.invariant-loop-link

@@ -7,7 +7,7 @@ use Rattle.semantics.specs.Decomposing.{link_pairs}
 use Rattle.semantics.specs.declared.link.Link.{Link}
 use Rattle.decomposing.specs.Revising.{brought}
 use Rattle.decomposing.proofs.Brings.{first_stops, last_ends, second_stops, third_stops}
-use Rattle.decomposing.proofs.Tries.{refused_as}
+use Rattle.order.proofs.Tries.{refused_as}
 use Rattle.decomposing.proofs.exchange.Exchange.put_brought.Goals as goal
 
 pub returns-in_err-put_inherited : goal.returns-in_err-put_inherited

@@ -23,7 +23,7 @@ returns g c =
     let n = c.given.result in
     let olds = λ (x : ℕ). is_step os x && beside d R e.leaving x in
     let pairs = λ (x : ℕ). map (facing_pair d x) (range_with_len (first e) count) in
-    let put : Tried keeper.CAPACITY (keeper.before c.args.next.now) (flat_map pairs (filter olds (range_with_len 0 n))) (is_ok c.put_each.result) (keeper.before c.put_each.new.next) =
+    let put : Tried keeper.CAPACITY (keeper.before c.args.next.now) (flat_map pairs (filter olds (range_with_len 0 n))) (is_ok c.put_each.result) (keeper.before c.put_each.new.keeper) =
     c.put_each.ensures _ (YieldsList-from_flat_map _ _ _ (λ p. p) pairs _
     (λ x u q k. (search (rules, tests), λ j is. YieldsList-from_map _ (facing_pair d x) {f = (d, x)} (YieldsList-from_range (first e) (first e + count) count (search (rules, tests)) (omega arith)) (search (rules, tests)) (λ y r o l. search (rules, tests))))
     (YieldsList-at c.flat_map-pairs.ensures.source (YieldsList-from_filter _ olds (YieldsList-from_range 0 n n c.filter-old.ensures.source (omega arith)) c.filter-old.ensures.closure (λ x b q k. search (rules, tests))))

@@ -19,7 +19,7 @@ returns g c =
     let R = (method e.method.now).before in
     let k = c.count_steps-count.result in
     let pairs : ℕ → List (ℕ × ℕ) = λ (a : ℕ). map (λ (b : ℕ). (f + a, f + b)) (filter (R a) (range_with_len 0 k)) in
-    let put : Tried keeper.CAPACITY (keeper.before c.args.next.now) (flat_map pairs (range_with_len 0 k)) (is_ok c.put_each.result) (keeper.before c.put_each.new.next) =
+    let put : Tried keeper.CAPACITY (keeper.before c.args.next.now) (flat_map pairs (range_with_len 0 k)) (is_ok c.put_each.result) (keeper.before c.put_each.new.keeper) =
     c.put_each.ensures _ (YieldsList-from_flat_map _ _ _ (λ p. p) pairs _
     (λ a u q l. (search (rules, tests), λ j is. YieldsList-from_map _ (λ (b : ℕ). (f + a, f + b)) {f = (c.args.self, a)} (YieldsList-from_filter _ (R a) {f = (c.args.self, a)} (YieldsList-from_range 0 k k (search (rules, tests)) (omega arith)) (search (rules, tests)) (λ b r o m. search (rules, tests))) (search (rules, tests)) (λ b r o m. search (rules, tests))))
     (YieldsList-from_range 0 k k c.flat_map-own.ensures.source (omega arith))
