@@ -33,7 +33,8 @@ fn puts_of(shape: Shape) -> u32
 
 /// The pair of the two numbers below 32, the lower first.
 fn rising(a: u8, b: u8) -> (u8, u8)
-    requires { (a < 32) × (b < 32) }
+    requires one { a < 32 }
+    requires other { b < 32 }
     ensures { result.1 < 32 }
 {
     if a < b { (a, b) } else { (b, a) }
