@@ -23,6 +23,8 @@ fn judged(domain: &mut Domain, answer: Answer)
     }
 }
 
+// In each line of these a match on the phase says whose it is. No table of functions: the plan's take the keeper, and the domain's don't.
+
 impl<K: Keeper> Checker<K> {
     /// S: a new step of a task, of the open method or of the initial plan.
     pub(super) fn new_step(&mut self, task: u8) -> Answer

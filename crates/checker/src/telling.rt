@@ -38,6 +38,7 @@ impl<K: Keeper> Checker<K> {
         self.carry_out(parse(line)?)
     }
 
+    // One arm for each letter of the plan, since each command has fields of its own.
     /// Carries a command out: the plan's in their phases, and any other as the domain does.
     fn carry_out(&mut self, command: Command) -> Answer
         ensures { Obeys K.CAPACITY command (row result) (held (K.before self.old.keeper) self.old) (held (K.before self.new.keeper) self.new) }

@@ -50,6 +50,8 @@ pub trait Keeper: Sized + Drop {
     fn drop_step(&mut self, a: u8)
         ensures { before self.new ≡ dropped (before self.old) a };
 
+    // These two loops go over step numbers and no places: a keeper lends no list of its pairs.
+
     /// Puts the pairs of `from` that begin with `a`. If `from` has all that is kept before, it has all that is kept then.
     fn put_row(&mut self, from: &Self, a: u8)
         ensures { Within (before self.old) (before from.now) → RowCopied (before from.now) (before self.old) a CAPACITY (before self.new) }

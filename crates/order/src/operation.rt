@@ -4,6 +4,7 @@ ghost use Rattle.order.specs.Operations.{answered, LowPuts, same_answers};
 
 use crate::keeper::Keeper;
 
+// An enum and no closures, so that a list of operations can be given to two keepers and compared.
 /// One operation on a keeper.
 #[derive(Clone, Copy, PartialEq, Eq, Debug)]
 pub enum Operation {

@@ -10,6 +10,7 @@ use page::{Answer, Refusal, Side};
 use semantics::Link;
 
 impl Domain {
+    // One arm for each letter, since each command has fields of its own.
     /// Carries a command out, unless it is the plan's: then it is of the wrong phase here, and nothing changes.
     pub fn carry_out(&mut self, command: Command) -> Answer
         ensures domain { of_domain (parts self.old).phase command ≡ true → Tells (parts self.old) command (row result) (parts self.new) }
