@@ -24,6 +24,7 @@ fn judged(domain: &mut Domain, answer: Answer)
 }
 
 // In each line of these a match on the phase says whose it is. No table of functions: the plan's take the keeper, and the domain's don't.
+// X, J and R are the plan's alone: a match of two arms is as plain as a test of its own would be.
 
 impl<K: Keeper> Checker<K> {
     /// S: a new step of a task, of the open method or of the initial plan.

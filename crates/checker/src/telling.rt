@@ -46,6 +46,7 @@ impl<K: Keeper> Checker<K> {
         match command {
             Command::NewStep { task } => self.new_step(task),
             Command::PutOrder { earlier, later } => self.put_order(earlier, later),
+            // Field by field: `Link` is of semantics, which stands above line.
             Command::PutLink {
                 producer,
                 add,

@@ -17,6 +17,7 @@ use page::{Answer, Refusal};
 const FACTS: u8 = 64;
 
 impl Task {
+    // A match, since each role has a condition of its own.
     /// Whether facts can play this role in the task, whose number is `t`: init needs nothing, goal adds nothing, and neither they nor
     /// compound tasks delete.
     fn may_play(&self, t: u8, role: Role) -> bool

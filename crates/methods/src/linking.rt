@@ -20,7 +20,7 @@ use semantics::Link;
 
 /// Lets a link join two steps. Where both are primitive, the first is before the second from then on.
 // The plan's function of this name is over a keeper, and the project keeps the order of a method out of keepers. What is alike is in links:
-// a trait over methods and plans would have eight members for two types.
+// a trait over methods and plans would have eight members for two types. So below, for the ends of a link and its entry.
 fn arrange(order: &mut SmallOrder, p: u8, q: u8, ordered: bool) -> Result<(), Refusal>
     requires producer { p < 8 }
     requires consumer { q < 8 }

@@ -24,6 +24,7 @@ fn count(known: &Tasks, t: u8, side: Side) -> u8
 }
 
 impl Method {
+    // A match picks the field, here and in `enter`: a method has two lists of entries, with names.
     /// Where the needs or the adds of the method's task go.
     pub(super) fn entries(&self, side: Side) -> &Entries
         ensures { going result.now ≡ goes_on side (method self.now) }

@@ -23,7 +23,8 @@ use page::{Answer, Refusal};
 use semantics::Link;
 
 /// Lets a link join two steps. Where both are primitive, the first is before the second from then on.
-// The method's function of this name is over a table: the project keeps the order of a method out of keepers.
+// The method's function of this name is over a table: the project keeps the order of a method out of keepers. What is alike is in links: a
+// trait over methods and plans would have eight members for two types. So below, for the ends of a link and its entry.
 fn arrange<K: Keeper>(keeper: &mut K, p: u8, q: u8, ordered: bool) -> Result<(), Refused>
     ensures answer { p < K.CAPACITY → q < K.CAPACITY → is_ok result ≡ not (p == q || (ordered && K.before keeper.old q p)) }
     ensures after { K.before keeper.new ≡ (if is_ok result && ordered then put (K.before keeper.old) p q else K.before keeper.old) }

@@ -26,6 +26,7 @@ impl Domain {
             Command::OpenMethod { task } => self.open_method(task),
             Command::NewStep { task } => self.new_step(task),
             Command::PutOrder { earlier, later } => self.put_order(earlier, later),
+            // Field by field: `Link` is of semantics, which stands above line.
             Command::PutLink {
                 producer,
                 add,

@@ -12,12 +12,15 @@ use std::alloc::{AllocError, Global};
 use std::io;
 use std::io::{Read, Write};
 
+// The program `visit` has this limit too; a crate for what two programs share would be one constant.
 /// A longer text is not read.
 const MOST_BYTES: usize = 16384;
 
+// As page has it; with less, `rows_of` would not have all rows, and would be refused.
 /// No row is longer than this.
 const ROW_BYTES: usize = 28;
 
+// Written out: no answer has this row, so a `Row` would be made by hand all the same.
 /// The row of a text that is too long.
 const TOO_LONG: [u8; 14] = *b"10,16384,0,0\r\n";
 
