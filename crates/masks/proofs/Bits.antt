@@ -1,11 +1,11 @@
 -- One bit of a number that is made by `|`, `&` or `!`.
-use Rattle.std.proofs.Common.{◌≡◌, ℕ, ◌-◌, ◌^◌, ◌<◌, Bool, true, false, not, ◌&&◌, ◌||◌, eqb, ◌⊎◌, sym, refl, ap, ◌∙◌, inl, inr, ⊎_elim, arith}
-use lib.Bits.{bit_and, bit_or}
+use Rattle.std.proofs.Common.{◌≡◌, ℕ, ◌+◌, ◌-◌, ◌%◌, ◌^◌, ◌<◌, Bool, true, false, not, ◌&&◌, ◌||◌, eqb, ◌⊎◌, sym, refl, ap, ◌∙◌, inl, inr, ⊎_elim, arith}
+use lib.Bits.{bit_and, bit_or, bit_xor}
 use Prim.Native.Nat.{min, max}
 use mir.Syntax.{w64}
 use Rattle.std.specs.Int.{bit_at}
 use Rattle.std.proofs.lemmas.Nat.{le_or_l, pow_below}
-use Rattle.std.proofs.lemmas.Nat.Bits.{bit_at_above, bit_at_and, bit_at-lt, bit_at_not, bit_at_or, bit_at-pow_other, bit_at-pow_same, bit_at-zero}
+use Rattle.std.proofs.lemmas.Nat.Bits.{bit_at_above, bit_at_and, bit_at-lt, bit_at_not, bit_at_or, bit_at-pow_other, bit_at-pow_same, bit_at_xor, bit_at-zero}
 use Rattle.std.proofs.lemmas.Bool.{both_ways, cases_eq, cases_lt, eq-eqb, ne_eqb, or_right}
 use Rattle.std.proofs.lemmas.Bool.Decides.{nat_tests}
 use Rattle.masks.specs.Bits.{bit}
@@ -15,6 +15,10 @@ digit_or p q hp hq = grind (arith, nat_tests)
 
 digit_and : (p q : ℕ) → p < 2 → q < 2 → eqb (min p q) 1 ≡ (eqb p 1 && eqb q 1)
 digit_and p q hp hq = grind (arith, nat_tests)
+
+-- against a set digit
+digit_xor : (p q : ℕ) → p < 2 → q < 2 → eqb p 1 ≡ true → eqb ((p + q) % 2) 1 ≡ not (eqb q 1)
+digit_xor p q hp hq e = grind (arith, nat_tests)
 
 digit_not : (q : ℕ) → q < 2 → eqb (1 - q) 1 ≡ not (eqb q 1)
 digit_not q h = grind (arith, nat_tests)
@@ -30,6 +34,10 @@ bit-or m n y = ap (λ (k : ℕ). eqb k 1) (bit_at_or m n y) ∙ digit_or (bit_at
 pub bit-and : (m n y : ℕ) → bit (bit_and m n) y ≡ (bit m y && bit n y)
 unfolding bit
 bit-and m n y = ap (λ (k : ℕ). eqb k 1) (bit_at_and m n y) ∙ digit_and (bit_at m y) (bit_at n y) (bit_at-lt m y) (bit_at-lt n y)
+
+pub bit-xor : (m n y : ℕ) → bit m y ≡ true → bit (bit_xor m n) y ≡ not (bit n y)
+unfolding bit
+bit-xor m n y e = ap (λ (k : ℕ). eqb k 1) (bit_at_xor m n y) ∙ digit_xor (bit_at m y) (bit_at n y) (bit_at-lt m y) (bit_at-lt n y) e
 
 bit-not : (p y : ℕ) → p < 2 ^ 64 → y < 64 → bit (18446744073709551615 - p) y ≡ not (bit p y)
 unfolding bit

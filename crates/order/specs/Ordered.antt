@@ -1,5 +1,5 @@
 -- Strict orders between the numbers below a capacity: what keeps them, and that to be one is a fact.
-use Rattle.std.specs.Prelude.{◌≡◌, ℕ, ◌<◌, ◌≤◌, true}
+use Rattle.std.specs.Prelude.{◌≡◌, ℕ, ◌<◌, ◌≤◌, true, false}
 use Rattle.std.proofs.Math.Bool.{Bool-set}
 use Rattle.std.proofs.Math.Logic.{∥∥₁_elim}
 use Rattle.std.proofs.Math.Path.{fun_ext}
@@ -8,7 +8,7 @@ use Rattle.std.proofs.Math.Bridge.{le_prop}
 use Rattle.std.proofs.lemmas.Bool.Decides.{nat_tests}
 use Rattle.order.specs.Puts.{can_put, nothing, Order}
 use Rattle.semantics.specs.Orders.{dropped, Holds, put, Relation, Smallest}
-use Rattle.semantics.proofs.Orders.{put_cases, put_smallest, put_strict}
+use Rattle.semantics.proofs.Orders.{is_false, put_cases, put_smallest, put_strict}
 
 -- relations that answer alike are equal
 pub same_relation : (R S : Relation) → ((x y : ℕ) → R x y ≡ S x y) → R ≡ S
@@ -62,6 +62,10 @@ order_dropped n R s o = record {
 -- a number that no pair has: to drop it changes nothing
 pub dropped_past : (n : ℕ) (R : Relation) (s : ℕ) → Order n R → n ≤ s → R ≡ dropped R s
 dropped_past n R s o l = same_relation R (dropped R s) (λ x y. grind (arith, nat_tests, o.within x y))
+
+-- nothing past the capacity is before another
+pub past_false : (n : ℕ) (R : Relation) (a b : ℕ) → Order n R → (a < n → b < n → ⊥) → R a b ≡ false
+past_false n R a b o l = is_false (R a b) (λ h. let w = o.within a b h in l w.0 w.1)
 
 no_prop : (p q : ⊥) → p ≡ q
 no_prop p q = absurd p
