@@ -2,7 +2,7 @@
  * yardcheck: a verified plan checker for weighbridge terminals.
  *
  * One call, no state between calls, no allocation, no global variable: it may be called from any thread, also from several at once.
- * The checker lives on the stack while the call runs (108 KiB in all; docs/BENCHMARKS.md says how that was measured).
+ * The checker lives on the stack while the call runs (50 KiB in all; docs/BENCHMARKS.md says how that was measured).
  *
  *     unsigned char page[4096];
  *     size_t n = yardcheck_run(text, text_len, page, sizeof page);

@@ -22,6 +22,8 @@ fn first_bad(line: &[u8]) -> Option<usize>
 }
 
 /// The numbers of the fields after the letter, of which there are to be `N`.
+// Inlined, here and in `alone`: each letter has its own count of fields, and most have few.
+#[inline(always)]
 fn numbers<const N: usize>(rest: Option<&[u8]>) -> Result<[u8; N], Refusal>
     ensures { result ≡ counted N (fields_left rest.entry) }
 {
@@ -38,6 +40,7 @@ fn numbers<const N: usize>(rest: Option<&[u8]>) -> Result<[u8; N], Refusal>
 }
 
 /// A command whose letter stands alone.
+#[inline(always)]
 fn alone(rest: Option<&[u8]>, command: Command) -> Result<Command, Refusal>
     ensures { result ≡ without_numbers command (counted 0 (fields_left rest.entry)) }
 {

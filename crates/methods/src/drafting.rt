@@ -15,6 +15,8 @@ use semantics::Link;
 
 impl Method {
     /// A method for a task, of which nothing is told yet.
+    // Not inlined: where the compiler sees the parts of a blank method, it fills a list of methods part by part, with code and stack for each.
+    #[inline(never)]
     pub fn blank(task: u8) -> Method
         ensures { method result ≡ blank task }
     {

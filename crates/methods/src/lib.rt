@@ -1,6 +1,6 @@
 //! Methods, told line by line: their steps, links, order and entries.
 //!
-//! Nothing here allocates, and no public function of a method asks anything of its caller.
+//! Nothing here allocates, and no public function asks anything of its caller (`SmallOrder::new` is the one of `Table`, at 8 numbers: 8 ≤ 64).
 #![tactic(auto)]
 
 mod asking;

@@ -1,13 +1,19 @@
 -- How long numbers and rows are.
-use Rattle.std.proofs.Common.{◌≡◌, ℕ, ◌+◌, ◌^◌, ◌<◌, ◌≤◌, length, decimal, ap, arith, length-append}
+use Rattle.std.proofs.Common.{◌≡◌, ℕ, ◌+◌, ◌/◌, ◌%◌, ◌^◌, ◌<◌, ◌≤◌, length, decimal, ap, ◌∙◌, arith, length-append}
 use Rattle.std.proofs.lemmas.List.{length_push}
-use Rattle.std.proofs.lemmas.Fmt.{decimal_digit, length-decimal-le}
+use Rattle.std.proofs.lemmas.Fmt.{decimal_digit, decimal_step, length-decimal-le}
 use Rattle.page.specs.Answers.{as_row}
 use Rattle.page.specs.Rows.{number_text, row_text}
 use Rattle.page.specs.declared.answer.Row.{Row}
 
 pub length_digit : (n : ℕ) → n < 10 → length (decimal n) ≡ 1
 length_digit n h = ap length (decimal_digit n h)
+
+pub length_step : (n : ℕ) → 10 ≤ n → n < 2 ^ 64 → length (decimal n) ≡ length (decimal (n / 10)) + 1
+length_step n h w = ap length (decimal_step n h w) ∙ length_push (decimal (n / 10)) (48 + n % 10)
+
+pub length_two : (n : ℕ) → 10 ≤ n → n < 100 → length (decimal n) ≡ 2
+length_two n h k = omega (arith, length_step n h (omega arith), length_digit (n / 10) (omega arith))
 
 pub length_number : (n after : ℕ) → length (number_text n after) ≡ length (decimal n) + 1
 length_number n after = length_push (decimal n) after

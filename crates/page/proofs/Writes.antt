@@ -1,9 +1,10 @@
 -- A page on which one text is written after another.
-use Rattle.std.proofs.Common.{◌≡◌, ℕ, ◌+◌, ◌<◌, ◌≤◌, List, [], ◌∷◌, ◌++◌, length, take, drop, set, sym, ap, ◌∙◌, append_assoc, add_assoc, add-one, arith, length-append, length-drop}
+use Rattle.std.proofs.Common.{◌≡◌, ℕ, ◌+◌, ◌/◌, ◌%◌, ◌^◌, ◌<◌, ◌≤◌, List, [], ◌∷◌, ◌++◌, length, take, drop, set, decimal, sym, ap, ◌∙◌, append_assoc, add_assoc, add-one, arith, length-append, length-drop}
 use Rattle.std.proofs.lemmas.List.{set_split, take_at, drop_at, drop-drop, length-take-le}
+use Rattle.std.proofs.lemmas.Fmt.{decimal_digit, decimal_step}
 use Rattle.page.specs.Rows.{number_text, row_text, written}
 use Rattle.page.specs.declared.answer.Row.{Row}
-use Rattle.page.proofs.Lengths.{length_parts}
+use Rattle.page.proofs.Lengths.{length_digit, length_parts}
 
 -- the page keeps its length
 pub length_written : (p : List ℕ) (at : ℕ) (xs : List ℕ) → at + length xs ≤ length p → length (written p at xs) ≡ length p
@@ -38,6 +39,25 @@ pub then_byte : (p : List ℕ) (at : ℕ) (xs q : List ℕ) (end b : ℕ) → at
 then_byte p at xs q end b l h e =
     let long = ap length h ∙ length_written p at xs (omega arith) in
     then p at xs q end (b ∷ []) _ (omega arith) h e (written_byte q end b (omega arith))
+
+pub written_digit : (p : List ℕ) (at n : ℕ) → at < length p → n < 10 → set p at (48 + n) ≡ written p at (decimal n)
+written_digit p at n l h = written_byte p at (48 + n) l ∙ ap (written p at) (sym (decimal_digit n h))
+
+-- the last digit, after a tenth of the number
+written_step : (p : List ℕ) (at n end : ℕ) (q : List ℕ) → at + length (decimal (n / 10)) < length p → 10 ≤ n → n < 2 ^ 64 → q ≡ written p at (decimal (n / 10)) → end ≡ at + length (decimal (n / 10)) → set q end (48 + n % 10) ≡ written p at (decimal n)
+written_step p at n end q l h w k e = then_byte p at (decimal (n / 10)) q end (48 + n % 10) l k e ∙ ap (written p at) (sym (decimal_step n h w))
+
+-- two digits
+pub written_two : (p : List ℕ) (at n : ℕ) → at + 1 < length p → 10 ≤ n → n < 100 → set (set p at (48 + n / 10)) (at + 1) (48 + n % 10) ≡ written p at (decimal n)
+written_two p at n l h k =
+    let one = length_digit (n / 10) (omega arith) in
+    written_step p at n (at + 1) (set p at (48 + n / 10)) (omega (arith, one)) h (omega arith) (written_digit p at (n / 10) (omega arith) (omega arith)) (omega (arith, one))
+
+-- and the page between them is as long as before
+pub length_tens : (p : List ℕ) (at n : ℕ) → at < length p → n < 100 → length (set p at (48 + n / 10)) ≡ length p
+length_tens p at n l k =
+    let one = length_digit (n / 10) (omega arith) in
+    ap length (written_digit p at (n / 10) l (omega arith)) ∙ length_written p at (decimal (n / 10)) (omega (arith, one))
 
 -- the four numbers of a row and its last byte, one after another
 pub written_row : (p : List ℕ) (at : ℕ) (w : Row) (e₁ e₂ e₃ e₄ : ℕ) (q₁ q₂ q₃ q₄ : List ℕ) → at + length (row_text w) ≤ length p

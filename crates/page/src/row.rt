@@ -1,5 +1,5 @@
 //! Answers as rows, and rows on a page.
-ghost use Rattle.std.specs.Prelude.{◌≡◌, ◌+◌, ◌<◌, ◌≤◌, length, if◌then◌else◌, is_ok, Some, None, MatchOption, ◌==◌};
+ghost use Rattle.std.specs.Prelude.{◌≡◌, ◌+◌, ◌<◌, ◌≤◌, length, if◌then◌else◌, is_ok, Some, None, decimal, MatchOption, ◌==◌};
 ghost use Rattle.page.specs.Answers.{as_row, refusal_row, row, side_number, unread};
 ghost use Rattle.page.specs.declared.answer.Refusal.TheVariants as refused;
 ghost use Rattle.page.specs.Rows.{RowsEndInBreaks, fits, number_text, numbers_text, row_text, written};
@@ -161,14 +161,44 @@ fn put(page: &mut [u8], at: usize, text: &[u8]) -> usize
     end
 }
 
+/// Writes the digits of a number, and answers the place after them.
+// Not inlined, so that short numbers need not make room for its buffer.
+#[inline(never)]
+fn put_digits(page: &mut [u8], at: usize, n: u64) -> usize
+    requires { at + length (decimal n) ≤ length page.old }
+    ensures page { page.new ≡ written page.old at (decimal n) }
+    ensures place { result ≡ at + length (decimal n) }
+{
+    let mut digits = Buffer::new();
+    put(page, at, digits.format(n).as_bytes())
+}
+
+/// Writes the number in decimal, and answers the place after it.
+fn put_decimal(page: &mut [u8], at: usize, n: u64) -> usize
+    requires { at + length (decimal n) ≤ length page.old }
+    ensures page { page.new ≡ written page.old at (decimal n) }
+    ensures place { result ≡ at + length (decimal n) }
+{
+    // Nearly all numbers of rows have one digit or two, and a buffer for them would cost more than the rest of the row.
+    if n < 10 {
+        page[at] = b'0' + n as u8;
+        return at + 1;
+    }
+    if n < 100 {
+        page[at] = b'0' + (n / 10) as u8;
+        page[at + 1] = b'0' + (n % 10) as u8;
+        return at + 2;
+    }
+    put_digits(page, at, n)
+}
+
 /// Writes the number in decimal and a byte after it, and answers the place after both.
 fn put_number(page: &mut [u8], at: usize, n: u64, after: u8) -> usize
     requires { at + length (number_text n after) ≤ length page.old }
     ensures page { page.new ≡ written page.old at (number_text n after) }
     ensures place { result ≡ at + length (number_text n after) }
 {
-    let mut digits = Buffer::new();
-    let end = put(page, at, digits.format(n).as_bytes());
+    let end = put_decimal(page, at, n);
     page[end] = after;
     end + 1
 }

@@ -11,7 +11,9 @@ overflow_add-result g c =
     omega (arith, h)
 
 pub returns-then-count : goal.returns-then-count
-returns-then-count g c = count_differs (fields_left c.args.rest) c.after_letter-after.ensures.fields c.remaining-count.ensures.value c.if-count.true
+returns-then-count g c =
+    let differs = count_differs (fields_left c.args.rest) c.after_letter-after.ensures.fields c.remaining-count.ensures.value c.if-count.true in
+    grind (arith, differs)
 
 pub loop-field-init : goal.loop-field-init
 loop-field-init g c =

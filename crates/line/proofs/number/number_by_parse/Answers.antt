@@ -2,7 +2,7 @@ use Rattle.std.proofs.Common.{rules, ◌≡◌, ◌∙◌, ◌≤◌, length, ge
 use Rattle.std.specs.Str.{IsUtf8}
 use Rattle.std.proofs.lemmas.Str.Parse.{parse_plain}
 use Rattle.line.proofs.Digits.{own, no_text, from_parse}
-use Rattle.line.proofs.number.number.Goals as goal
+use Rattle.line.proofs.number.number_by_parse.Goals as goal
 
 pub returns-in_err-ok-in_default : goal.returns-in_err-ok-in_default
 returns-in_err-ok-in_default c = let none : IsUtf8 c.args.text.now → ⊥ = search rules in c.from_residual.ensures ∙ no_text c.args.text.now none
